@@ -1,0 +1,30 @@
+use Rattle.rules.specs.Valid.{validOf}
+use borrow.Author.Needs.{needs}
+use Rattle.device.proofs.valid.valid.Statement.{statement}
+use Rattle.device.proofs.valid.valid.Tie as tie
+
+valid-registers-requires : tie.Need-valid-registers-requires
+valid-registers-requires c κs = search needs
+
+valid-start-requires : tie.Need-valid-start-requires
+valid-start-requires c κs = search needs
+
+valid-timer-requires : tie.Need-valid-timer-requires
+valid-timer-requires c κs = search needs
+
+valid-channels-requires : tie.Need-valid-channels-requires
+valid-channels-requires c κs = search needs
+
+returns : tie.Need-returns
+unfolding validOf
+returns c = simp (c .before .before .before .before .before .valid-registers .ensures, c .before .before .before .before .valid-start .ensures, c .before .before .valid-timer .ensures, c .valid-channels .ensures)
+
+pub valid-spec : {M : Type 1} → statement M
+valid-spec =
+    tie.close
+    (tie.spec
+    valid-registers-requires
+    valid-start-requires
+    valid-timer-requires
+    valid-channels-requires
+    returns)

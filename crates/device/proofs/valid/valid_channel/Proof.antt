@@ -1,0 +1,22 @@
+use Rattle.rules.specs.Valid.{validChannel}
+use borrow.Author.Needs.{needs}
+use Rattle.device.proofs.valid.valid_channel.Statement.{statement}
+use Rattle.device.proofs.valid.valid_channel.Tie as tie
+
+valid-settings-requires : tie.Need-valid-settings-requires
+valid-settings-requires c κs = search needs
+
+valid-results-requires : tie.Need-valid-results-requires
+valid-results-requires c κs = search needs
+
+valid-motion-requires : tie.Need-valid-motion-requires
+valid-motion-requires c κs = search needs
+
+returns : tie.Need-returns
+unfolding validChannel
+returns c = simp (c .before .before .valid-settings .ensures, c .before .valid-results .ensures, c .valid-motion .ensures)
+
+pub valid-channel-spec : {M : Type 1} → statement M
+valid-channel-spec =
+    tie.close
+    (tie.spec valid-settings-requires valid-results-requires valid-motion-requires returns)

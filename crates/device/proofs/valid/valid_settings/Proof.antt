@@ -1,0 +1,15 @@
+use borrow.Author.Needs.{needs}
+use Rattle.device.proofs.valid.valid_settings.Statement.{statement}
+use Rattle.device.proofs.valid.valid_settings.Tie as tie
+
+config-refused-requires : tie.Need-config-refused-requires
+config-refused-requires c κs = search needs
+
+dynamics-kept-requires : tie.Need-dynamics-kept-requires
+dynamics-kept-requires c κs = search needs
+
+returns : tie.Need-returns
+returns c = simp (c .before .before .before .before .config-refused .ensures, c .before .before .before .dynamics-kept .ensures)
+
+pub valid-settings-spec : {M : Type 1} → statement M
+valid-settings-spec = tie.close (tie.spec config-refused-requires dynamics-kept-requires returns)

@@ -1,0 +1,18 @@
+use mathlib.Core.Path.{refl}
+use Rattle.rules.specs.Time.{watchdogLimit}
+use borrow.Author.Needs.{needs}
+use Rattle.device.proofs.valid.watchdog_limit.Statement.{statement}
+use Rattle.device.proofs.valid.watchdog_limit.Tie as tie
+
+mul-result : tie.Need-mul-result
+mul-result c = search needs
+
+array-read-result : tie.Need-array-read-result
+array-read-result c = search needs
+
+returns : tie.Need-returns
+unfolding watchdogLimit
+returns c = refl
+
+pub watchdog-limit-spec : {M : Type 1} → statement M
+watchdog-limit-spec = tie.close (tie.spec mul-result array-read-result returns)

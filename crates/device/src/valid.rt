@@ -1,0 +1,112 @@
+// Whether a state is valid: the test of refusal 1.
+ghost use mathlib.Core.Path.{_≡_};
+ghost use Prim.Native.Nat.{_<_};
+ghost use Rattle.rules.specs.Basics.{every};
+ghost use Rattle.rules.specs.Time.{watchdogLimit};
+ghost use Rattle.rules.specs.Valid.{validSettings, validResults, validMotion, validChannel, validRegisters, validStart, validTimer, validOf};
+use crate::kept::config_refused;
+use crate::kept::control_kept;
+use crate::kept::dynamics_kept;
+use crate::kept::mask_kept;
+use crate::kept::options_kept;
+use rules::Channel;
+use rules::Registers;
+use rules::StartValues;
+use rules::State;
+use rules::Timer;
+
+fn valid_settings(channel: Channel) -> bool
+    ensures { λ r. ⌜ r ≡ validSettings channel ⌝ }
+{
+    !config_refused(channel.config)
+        & (dynamics_kept(channel.dynamics) == channel.dynamics)
+        & (channel.target < 512)
+        & (channel.target_count < 2048)
+}
+
+fn valid_results(channel: Channel) -> bool
+    ensures { λ r. ⌜ r ≡ validResults channel ⌝ }
+{
+    (channel.count < 2048) & (channel.queue <= 6)
+}
+
+fn valid_motion(stopped: bool, channel: Channel) -> bool
+    ensures { λ r. ⌜ r ≡ validMotion stopped channel ⌝ }
+{
+    (channel.ramp < 512)
+        & (channel.spin <= 1024)
+        & (!stopped | ((channel.ramp == 0) & (channel.spin == 0)))
+        & (!(0 < channel.spin) | (channel.ramp == 511))
+}
+
+fn valid_channel(in_standby: bool, channel: Channel) -> bool
+    ensures { λ r. ⌜ r ≡ validChannel «in_standby» channel ⌝ }
+{
+    let monitor = channel.config / 16 % 2 == 1;
+    valid_settings(channel) & valid_results(channel) & valid_motion(in_standby | monitor, channel)
+}
+
+fn valid_channels(in_standby: bool, channels: [Channel; 6]) -> bool
+    ensures { λ r. ⌜ r ≡ every (validChannel «in_standby») channels ⌝ }
+{
+    let mut all = true;
+    let mut i = 0;
+    while i < 6 {
+        all = all & valid_channel(in_standby, channels[i]);
+        i += 1;
+    }
+    all
+}
+
+fn valid_registers(registers: Registers) -> bool
+    ensures { λ r. ⌜ r ≡ validRegisters registers ⌝ }
+{
+    (control_kept(registers.control) == registers.control)
+        & (mask_kept(registers.mask2) == registers.mask2)
+        & (mask_kept(registers.mask1) == registers.mask1)
+        & (options_kept(registers.options) == registers.options)
+}
+
+// Whether the pin-set values are in range: the test of refusal 7, too.
+pub fn valid_start(start: StartValues) -> bool
+    ensures { λ r. ⌜ r ≡ validStart start ⌝ }
+{
+    (start.watchdog < 4) & (start.spinup < 4) & (start.target < 512)
+}
+
+const WATCHDOG_LIMITS: [u16; 4] = [0, 2560, 5120, 15360];
+
+// The idle ticks after which the watchdog expires, 0 where it is off.
+pub fn watchdog_limit(code: u8) -> u16
+    requires { ⌜ code < 4 ⌝ }
+    ensures { λ r. ⌜ r ≡ watchdogLimit code ⌝ }
+{
+    WATCHDOG_LIMITS[code as usize]
+}
+
+fn valid_timer(code: u8, timer: Timer) -> bool
+    requires { ⌜ code < 4 ⌝ }
+    ensures { λ r. ⌜ r ≡ validTimer code timer ⌝ }
+{
+    if code == 0 {
+        return (timer.idle == 0) & !timer.expired;
+    }
+    let limit = watchdog_limit(code);
+    if timer.expired {
+        return timer.idle == limit;
+    }
+    timer.idle < limit
+}
+
+pub fn valid(state: State) -> bool
+    ensures { λ r. ⌜ r ≡ validOf state ⌝ }
+{
+    let registers = state.registers;
+    let start = state.start;
+    let timer = state.timer;
+    let channels = state.channels;
+    valid_registers(registers)
+        & valid_start(start)
+        & valid_timer(registers.control / 2 % 4, timer)
+        & valid_channels(registers.control / 128 % 2 == 1, channels)
+}

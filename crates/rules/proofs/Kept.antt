@@ -1,0 +1,271 @@
+-- Start gives a valid state, and read and write keep a valid state valid.
+use Prim.Native.Nat.{ℕ, _+_, _*_, _/_, _%_, _<_}
+use mathlib.Core.Path.{_≡_, refl, sym, _∙_, ap, subst}
+use mathlib.Core.Bool.{Bool, true, false, not, _&&_, _||_, Bool·beq, or-true}
+use mathlib.Core.List.{List, map, map-id}
+use native.Mathlib.Omega.{arith}
+use native.Mathlib.Nat.{mod-lt}
+use lib.Dec.{leb, ltb, eqb, lit<}
+use lib.ListN.{set}
+use borrow.Author.Tests.{eq-eqb, lt-ltb}
+use Rattle.rules.specs.Types.{Channel, Registers, StartValues, Timer, State, BoxRegister, Control, Frequency, Mask2, Mask1, Options, ChannelRegister, Config, Dynamics, Target, TargetCount, Window, Place, Absent, ReadOnly, Shared, Own, Answer, ReadAnswer}
+use Rattle.rules.specs.Basics.{if_then_else_, _⇒_, every, bit}
+use Rattle.rules.specs.Registers.{standby, watchdogCode, monitorOnly, controlKept, dynamicsKept, maskKept, optionsKept, configRefused, blank, targetCount, channel, withSettings, withChannels, withRegisters, registers}
+use Rattle.rules.specs.Words.{withByte, dutyWord, countWord}
+use Rattle.rules.specs.Time.{watchdogLimit}
+use Rattle.rules.specs.Map.{placeAt}
+use Rattle.rules.specs.Valid.{validSettings, validResults, validMotion, validChannel, validRegisters, validStart, validTimer, validOf}
+use Rattle.rules.specs.Start.{startChannel, asAtStart, zeroState, startOf}
+use Rattle.rules.specs.Write.{accessed, stopped, cleared, channelWritten, byteRefused, reset, boxWritten, writeAt, writeOf}
+use Rattle.rules.specs.Read.{statusCleared, afterRead, readAt, readOf}
+use Rattle.rules.proofs.Tests.{same, choice, and-left, and-right, and-both, allBelow, all-below, every-at, every-set, every-map, every-replicate}
+use Rattle.rules.proofs.Valid.{Parts, parts, valid-of-parts, ChannelParts, channel-parts, valid-of-channel-parts, SettingsParts, settings-parts, valid-of-settings-parts, RegistersParts, registers-parts, valid-of-registers-parts, StartParts, start-parts, four, of-four}
+
+-- ---- what a register keeps of a byte it keeps again, and 00h keeps its standby bit
+
+record KeptAgain (b : ℕ) : Type 0 where
+  control : eqb (controlKept (controlKept b)) (controlKept b) ≡ true
+  standby-bit : Bool·beq (bit 7 (controlKept b)) (bit 7 b) ≡ true
+  dynamics : eqb (dynamicsKept (dynamicsKept b)) (dynamicsKept b) ≡ true
+  mask : eqb (maskKept (maskKept b)) (maskKept b) ≡ true
+  options : eqb (optionsKept (optionsKept b)) (optionsKept b) ≡ true
+
+kept-again : (b : ℕ) → b < 256 → KeptAgain b
+kept-again b h =
+    record {
+      control = all-below 256 (λ k. eqb (controlKept (controlKept k)) (controlKept k)) refl b h;
+      standby-bit = all-below 256 (λ k. Bool·beq (bit 7 (controlKept k)) (bit 7 k)) refl b h;
+      dynamics = all-below 256 (λ k. eqb (dynamicsKept (dynamicsKept k)) (dynamicsKept k)) refl b h;
+      mask = all-below 256 (λ k. eqb (maskKept (maskKept k)) (maskKept k)) refl b h;
+      options = all-below 256 (λ k. eqb (optionsKept (optionsKept k)) (optionsKept k)) refl b h;
+    }
+
+-- ---- the timer after an accepted access
+
+fresh-timer : (code clock : ℕ) (status : Bool) → code < 4 →
+    validTimer code (record { clock = clock; idle = 0; expired = false; status = status }) ≡ true
+unfolding validTimer watchdogLimit
+fresh-timer code clock status h =
+    all-below 4 (λ k. validTimer k (record { clock = clock; idle = 0; expired = false; status = status })) refl code h
+
+-- what an accepted access leaves is valid if all but its timer is
+record AllButTimer (s : State) : Type 0 where
+  registers : validRegisters (s .registers) ≡ true
+  start : validStart (s .start) ≡ true
+  channels : every (validChannel (standby (s .registers))) (s .channels) ≡ true
+
+all-but-timer : (s : State) → validOf s ≡ true → AllButTimer s
+all-but-timer s e =
+    let p = parts s e in
+    record { registers = p .registers; start = p .start; channels = p .channels }
+
+accessed-valid : (s : State) → AllButTimer s → validOf (accessed s) ≡ true
+accessed-valid s p =
+    valid-of-parts (accessed s)
+    (record {
+      registers = p .registers;
+      start = p .start;
+      timer = fresh-timer _ (s .timer .clock) (s .timer .status) (omega arith);
+      channels = p .channels;
+    })
+
+-- ---- a channel
+
+-- where a channel need not stand still, no more is asked of it
+looser-motion : (held less : Bool) (ch : Channel) → (less ⇒ held) ≡ true → validMotion held ch ≡ true → validMotion less ch ≡ true
+looser-motion held true ch weaker e = rw weaker at e
+looser-motion held false ch weaker e =
+    let t = four (ltb (ch .ramp) 512) (leb (ch .spin) 1024) _ _ e in
+    of-four _ _ _ _ (t .0) (t .1) refl (t .3)
+
+without-right : (a b : Bool) → ((a || false) ⇒ (a || b)) ≡ true
+without-right true b = refl
+without-right false b = refl
+
+without-left : (a b : Bool) → (b ⇒ (a || b)) ≡ true
+without-left a true = or-true a
+without-left a false = refl
+
+stopped-motion : (held : Bool) (ch : Channel) → validMotion held (stopped ch) ≡ true
+stopped-motion true ch = refl
+stopped-motion false ch = refl
+
+channel-written : (inStandby : Bool) (ch : Channel) (b : ℕ) → b < 256 → (r : ChannelRegister) → byteRefused r b ≡ false →
+    ChannelParts inStandby ch → ChannelParts inStandby (channelWritten ch b r)
+unfolding channelWritten
+channel-written inStandby ch b h Config e p =
+    let q = settings-parts ch (p .settings) in
+    let next = withSettings ch b (ch .dynamics) (ch .window) (ch .target) (targetCount ch) in
+    let settings = of-four (not (configRefused b)) _ _ _ (ap not e) (q .dynamics) (q .target) (q .target-count) in
+    choice (ChannelParts inStandby) (bit 4 b) (stopped next) next
+    (λ on. record { settings = settings; results = p .results; motion = stopped-motion (inStandby || bit 4 b) next })
+    (λ off. record {
+      settings = settings;
+      results = p .results;
+      motion = rw off (looser-motion _ (inStandby || false) ch (without-right inStandby (monitorOnly ch)) (p .motion));
+    })
+channel-written inStandby ch b h Dynamics e p =
+    let q = settings-parts ch (p .settings) in
+    record {
+      settings = of-four _ _ _ _ (q .config) (kept-again b h .dynamics) (q .target) (q .target-count);
+      results = p .results;
+      motion = p .motion;
+    }
+channel-written inStandby ch b h (Target low) e p =
+    let q = settings-parts ch (p .settings) in
+    record {
+      settings = of-four _ _ _ _ (q .config) (q .dynamics) (lt-ltb _ 512 (mod-lt (withByte low (dutyWord (ch .target)) b / 128) (lit< tt))) (q .target-count);
+      results = and-both (ltb (ch .count) 2048) _ (and-left (ltb (ch .count) 2048) _ (p .results)) refl;
+      motion = p .motion;
+    }
+channel-written inStandby ch b h (TargetCount low) e p =
+    let q = settings-parts ch (p .settings) in
+    record {
+      settings = of-four _ _ _ _ (q .config) (q .dynamics) (q .target) (lt-ltb _ 2048 (mod-lt (withByte low (countWord (ch .«target_count»)) b / 32) (lit< tt)));
+      results = p .results;
+      motion = p .motion;
+    }
+channel-written inStandby ch b h Window e p = record { settings = p .settings; results = p .results; motion = p .motion }
+
+-- ---- as at start
+
+start-channel-valid : (inStandby : Bool) (v : StartValues) → StartParts v → validChannel inStandby (startChannel v) ≡ true
+start-channel-valid inStandby v p =
+    valid-of-channel-parts inStandby (startChannel v)
+    (record {
+      settings = of-four _ _ _ _ (all-below 4 (λ code. not (configRefused (code * 0x20))) refl (v .spinup) (p .spinup)) refl (lt-ltb _ 512 (p .target)) refl;
+      results = refl;
+      motion = stopped-motion (inStandby || monitorOnly (startChannel v)) (startChannel v);
+    })
+
+as-at-start : (v : StartValues) (clock : ℕ) (pin : Bool) → validStart v ≡ true → AllButTimer (asAtStart v clock pin)
+as-at-start v clock pin e =
+    let p = start-parts v e in
+    record {
+      registers = valid-of-registers-parts _ (record { control = all-below 4 (λ code. eqb (controlKept (0x20 + code * 2)) (0x20 + code * 2)) refl (v .watchdog) (p .watchdog); mask2 = refl; mask1 = refl; options = refl });
+      start = e;
+      channels = every-replicate (validChannel (bit 7 (0x20 + v .watchdog * 2))) 6 (startChannel v) (start-channel-valid _ v p);
+    }
+
+zero-valid : validOf zeroState ≡ true
+unfolding validOf validRegisters validStart validTimer validChannel watchdogLimit
+zero-valid = refl
+
+pub start-valid : (watchdog spinup target frequency : ℕ) → validOf (startOf watchdog spinup target frequency .state) ≡ true
+unfolding startOf
+start-valid watchdog spinup target frequency =
+    let v : StartValues = record { watchdog = watchdog; spinup = spinup; target = target; frequency = frequency } in
+    choice (λ (x : Answer). validOf (x .state) ≡ true) (validStart v) _ _
+    (λ e. accessed-valid (asAtStart v 0 true) (as-at-start v 0 true e))
+    (λ e. zero-valid)
+
+-- ---- a register of the box
+
+-- 00h unchanged
+others-written : (s : State) (frequency mask2 mask1 options : ℕ) → eqb (maskKept mask2) mask2 ≡ true →
+    eqb (maskKept mask1) mask1 ≡ true → eqb (optionsKept options) options ≡ true → AllButTimer s →
+    AllButTimer (withRegisters s (registers (s .registers .control) frequency mask2 mask1 options))
+others-written s frequency mask2 mask1 options e2 e1 e p =
+    record {
+      registers = valid-of-registers-parts _ (record { control = registers-parts (s .registers) (p .registers) .control; mask2 = e2; mask1 = e1; options = e });
+      start = p .start;
+      channels = p .channels;
+    }
+
+-- 00h written: in standby every channel stands still, and out of it none need
+stopped-channels : (inStandby : Bool) (chs : List Channel) → every (validChannel inStandby) chs ≡ true →
+    every (validChannel true) (map stopped chs) ≡ true
+stopped-channels inStandby chs e =
+    every-map (validChannel inStandby) (validChannel true) stopped
+    (λ ch v. let p = channel-parts inStandby ch v in
+    valid-of-channel-parts true (stopped ch) (record { settings = p .settings; results = p .results; motion = refl }))
+    chs e
+
+free-channels : (inStandby : Bool) (chs : List Channel) → every (validChannel inStandby) chs ≡ true → every (validChannel false) chs ≡ true
+free-channels inStandby chs e =
+    rw map-id at
+    (every-map (validChannel inStandby) (validChannel false) (λ ch. ch)
+    (λ ch v. let p = channel-parts inStandby ch v in
+    valid-of-channel-parts false ch
+    (record { settings = p .settings; results = p .results; motion = looser-motion _ (monitorOnly ch) ch (without-left inStandby (monitorOnly ch)) (p .motion) }))
+    chs e)
+
+box-written : (s : State) (b : ℕ) → b < 256 → (r : BoxRegister) → AllButTimer s → AllButTimer (boxWritten s b r)
+unfolding boxWritten
+box-written s b h Control p =
+    choice AllButTimer (bit 6 b) (reset s) _ (λ on. as-at-start (s .start) (s .timer .clock) (s .pin) (p .start))
+    (λ off. choice AllButTimer (bit 7 b) _ _
+    (λ on. record { registers = kept; start = p .start; channels = rw (standby-kept ∙ on) (stopped-channels _ (s .channels) (p .channels)) })
+    (λ off. record { registers = kept; start = p .start; channels = rw (standby-kept ∙ off) (free-channels _ (s .channels) (p .channels)) }))
+  where
+    kept : validRegisters (registers (controlKept b) (s .registers .frequency) (s .registers .mask2) (s .registers .mask1) (s .registers .options)) ≡ true
+    kept =
+        let q = registers-parts (s .registers) (p .registers) in
+        valid-of-registers-parts _ (record { control = kept-again b h .control; mask2 = q .mask2; mask1 = q .mask1; options = q .options })
+
+    standby-kept : bit 7 (controlKept b) ≡ bit 7 b
+    standby-kept = same _ _ (kept-again b h .standby-bit)
+box-written s b h Frequency p =
+    let q = registers-parts (s .registers) (p .registers) in
+    others-written s b _ _ _ (q .mask2) (q .mask1) (q .options) p
+box-written s b h Mask2 p =
+    let q = registers-parts (s .registers) (p .registers) in
+    others-written s _ _ _ _ (kept-again b h .mask) (q .mask1) (q .options) p
+box-written s b h Mask1 p =
+    let q = registers-parts (s .registers) (p .registers) in
+    others-written s _ _ _ _ (q .mask2) (kept-again b h .mask) (q .options) p
+box-written s b h Options p =
+    let q = registers-parts (s .registers) (p .registers) in
+    others-written s _ _ _ _ (q .mask2) (q .mask1) (kept-again b h .options) p
+
+-- ---- a channel's register
+
+blank-valid : (inStandby : Bool) → validChannel inStandby blank ≡ true
+unfolding validChannel
+blank-valid true = refl
+blank-valid false = refl
+
+own-written : (s : State) (b i : ℕ) → b < 256 → (r : ChannelRegister) → byteRefused r b ≡ false → AllButTimer s →
+    AllButTimer (withChannels s (set (s .channels) i (channelWritten (channel s i) b r)))
+own-written s b i h r e p =
+    let inStandby = standby (s .registers) in
+    let before = channel-parts inStandby (channel s i) (every-at (validChannel inStandby) (s .channels) i blank (blank-valid inStandby) (p .channels)) in
+    let after = valid-of-channel-parts inStandby _ (channel-written inStandby (channel s i) b h r e before) in
+    record {
+      registers = p .registers;
+      start = p .start;
+      channels = every-set (validChannel inStandby) (s .channels) i _ after (p .channels);
+    }
+
+-- ---- the calls
+
+module _ (s : State) (a : ℕ) (valid : validOf s ≡ true) where
+  pub write-valid : (b : ℕ) → b < 256 → validOf (writeOf s a b .state) ≡ true
+  unfolding writeOf writeAt
+  write-valid b h = rw valid (at (placeAt a))
+    where
+      at : (p : Place) → validOf (writeAt s b p .state) ≡ true
+      at Absent = valid
+      at (ReadOnly r) = valid
+      at (Shared r) = accessed-valid (boxWritten s b r) (box-written s b h r (all-but-timer s valid))
+      at (Own r i) =
+          choice (λ (x : Answer). validOf (x .state) ≡ true) (byteRefused r b) _ _ (λ on. valid)
+          (λ off. accessed-valid (withChannels s (set (s .channels) i (channelWritten (channel s i) b r)))
+          (own-written s b i h r off (all-but-timer s valid)))
+
+  pub read-valid : validOf (readOf s a .state) ≡ true
+  unfolding readOf readAt
+  read-valid = rw valid (at (placeAt a))
+    where
+      after : validOf (afterRead s a) ≡ true
+      after =
+          choice (λ (t : State). validOf (accessed t) ≡ true) (eqb a 0x00) (statusCleared s) s
+          (λ on. let p = all-but-timer s valid in
+          accessed-valid (statusCleared s) (record { registers = p .registers; start = p .start; channels = p .channels }))
+          (λ off. accessed-valid s (all-but-timer s valid))
+
+      at : (p : Place) → validOf (readAt s a p .state) ≡ true
+      at Absent = valid
+      at (ReadOnly r) = after
+      at (Shared r) = after
+      at (Own r i) = after

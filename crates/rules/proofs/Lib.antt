@@ -1,0 +1,7 @@
+-- Theorems about the definitions of specs/.
+pub mod Tests
+pub mod Words
+pub mod Map
+pub mod Faults
+pub mod Valid
+pub mod Kept

@@ -1,0 +1,133 @@
+-- The map carries just the paper's 85 registers, just its read-only ones are read-only, and a channel's index is below 6.
+use Prim.Native.Nat.{ℕ, zero, suc, _+_, _-_, _/_, _<_, _≤_}
+use mathlib.Core.Path.{_≡_, refl, sym, _∙_, ap, subst}
+use mathlib.Core.Bool.{Bool, true, false, _&&_, Bool·beq, and-false}
+use mathlib.Core.List.{List, [], _∷_}
+use native.Mathlib.Omega.{arith}
+use native.Mathlib.Decide.{decLt}
+use lib.Dec.{ltb}
+use borrow.Author.Tests.{ltb-true, ltb-false, lt-leb}
+use Rattle.rules.specs.Types.{StatusRegister, Faults2, Faults1, Count, OtherCount, Output, ChannelRegister, Place, Absent, ReadOnly, Shared, Own}
+use Rattle.rules.specs.Basics.{if_then_else_, flag, every}
+use Rattle.rules.specs.Map.{settingAt, statusAt, targetAt, placeAt, Row, among, carriedRows, readOnlyRows, isCarried, isReadOnly}
+use Rattle.rules.proofs.Tests.{choice, and-left, and-right, same, allBelow, all-below}
+
+-- the channel that a place belongs to, 0 where it belongs to none
+abbrev pub statusIndex : StatusRegister → ℕ
+statusIndex Faults2 = 0
+statusIndex Faults1 = 0
+statusIndex (Count i low) = i
+statusIndex (OtherCount low) = 0
+statusIndex (Output i low) = i
+
+abbrev indexOf : Place → ℕ
+indexOf Absent = 0
+indexOf (ReadOnly r) = statusIndex r
+indexOf (Shared r) = 0
+indexOf (Own r i) = i
+
+-- what holds of every rung of the map
+record Rung (a : ℕ) (p : Place) : Type 0 where
+  small : indexOf p < 6
+  beyond : 0x66 ≤ a → p ≡ Absent
+
+below : (a limit : ℕ) (p q : Place) → (a < limit → Rung a p) → (limit ≤ a → Rung a q) → Rung a (if ltb a limit then p else q)
+below a limit p q f g = choice (Rung a) (ltb a limit) p q (λ e. f (ltb-true a limit e)) (λ e. g (ltb-false a limit e))
+
+absent : (a : ℕ) → Rung a Absent
+absent a = record { small = omega arith; beyond = λ h. refl }
+
+here : (a limit : ℕ) (p : Place) → limit ≤ 0x66 → a < limit → indexOf p < 6 → Rung a p
+here a limit p l h i = record { small = i; beyond = λ g. absurd (omega arith) }
+
+setting-rung : (a : ℕ) → Rung a (settingAt a)
+unfolding settingAt
+setting-rung a =
+    below a 0x01 _ _ (λ h. here a 0x01 _ (omega arith) h (omega arith)) λ _.
+    below a 0x02 _ _ (λ h. here a 0x02 _ (omega arith) h (omega arith)) λ _.
+    below a 0x08 _ _ (λ h. here a 0x08 _ (omega arith) h (omega arith)) λ _.
+    below a 0x0E _ _ (λ h. here a 0x0E _ (omega arith) h (omega arith)) λ _.
+    below a 0x10 _ _ (λ h. absent a) λ _.
+    below a 0x11 _ _ (λ h. here a 0x11 _ (omega arith) h (omega arith)) λ _.
+    below a 0x12 _ _ (λ h. here a 0x12 _ (omega arith) h (omega arith)) λ _.
+    below a 0x13 _ _ (λ h. here a 0x13 _ (omega arith) h (omega arith)) λ _.
+    below a 0x14 _ _ (λ h. here a 0x14 _ (omega arith) h (omega arith)) λ _.
+    below a 0x15 _ _ (λ h. here a 0x15 _ (omega arith) h (omega arith)) λ _. absent a
+
+status-rung : (a : ℕ) → Rung a (statusAt a)
+unfolding statusAt
+status-rung a =
+    below a 0x24 _ _ (λ h. here a 0x24 _ (omega arith) h (omega arith)) λ _.
+    below a 0x30 _ _ (λ h. here a 0x30 _ (omega arith) h (omega arith)) λ _.
+    below a 0x3C _ _ (λ h. here a 0x3C _ (omega arith) h (omega arith)) λ _. absent a
+
+target-rung : (a : ℕ) → Rung a (targetAt a)
+unfolding targetAt
+target-rung a =
+    below a 0x4C _ _ (λ h. here a 0x4C _ (omega arith) h (omega arith)) λ _.
+    below a 0x50 _ _ (λ h. absent a) λ _.
+    below a 0x5C _ _ (λ h. here a 0x5C _ (omega arith) h (omega arith)) λ _.
+    below a 0x60 _ _ (λ h. absent a) λ _.
+    below a 0x66 _ _ (λ h. here a 0x66 _ (omega arith) h (omega arith)) λ _. absent a
+
+place-rung : (a : ℕ) → Rung a (placeAt a)
+unfolding placeAt
+place-rung a = below a 0x18 _ _ (λ h. setting-rung a) λ _. below a 0x40 _ _ (λ h. status-rung a) λ _. target-rung a
+
+-- the channel that the map names is one of the six
+pub own-below-six : (a i : ℕ) (r : ChannelRegister) → placeAt a ≡ Own r i → i < 6
+own-below-six a i r e = subst (λ (p : Place). indexOf p < 6) e (place-rung a .small)
+
+pub status-below-six : (a : ℕ) (r : StatusRegister) → placeAt a ≡ ReadOnly r → statusIndex r < 6
+status-below-six a r e = subst (λ (p : Place). indexOf p < 6) e (place-rung a .small)
+
+-- ---- the paper's lists
+
+-- what is carried, and what can only be read, is just what the paper lists
+pub record AsListed (a : ℕ) : Type 0 where
+  pub carried : isCarried (placeAt a) ≡ among carriedRows a
+  pub read-only : isReadOnly (placeAt a) ≡ among readOnlyRows a
+
+-- how many numbers below n pass a test
+abbrev pub countBelow : ℕ → (ℕ → Bool) → ℕ
+countBelow zero test = 0
+countBelow (suc n) test = flag (test n) + countBelow n test
+
+abbrev listedTest : ℕ → Bool
+listedTest a =
+    Bool·beq (isCarried (placeAt a)) (among carriedRows a) && Bool·beq (isReadOnly (placeAt a)) (among readOnlyRows a)
+
+bytes-listed : allBelow 256 listedTest ≡ true
+unfolding placeAt settingAt statusAt targetAt
+bytes-listed = refl
+
+-- no row goes past 65h
+past : (rows : List Row) → every (λ row. ltb (row .last) 0x66) rows ≡ true → (a : ℕ) → 0x66 ≤ a → among rows a ≡ false
+past [] e a h = refl
+past (row ∷ rows) e a h =
+    let l : row .last < a = omega (arith, ltb-true (row .last) 0x66 (and-left (ltb (row .last) 0x66) _ e)) in
+    rw (lt-leb a (row .last) l, and-false, past rows (and-right (ltb (row .last) 0x66) _ e) a h)
+
+pub map-as-listed : (a : ℕ) → AsListed a
+map-as-listed a = elim (decLt a 256) [ yes l ↦ byte l | no g ↦ above (omega arith) ]
+  where
+    byte : a < 256 → AsListed a
+    byte l =
+        let e = all-below 256 listedTest bytes-listed a l in
+        record {
+          carried = same _ _ (and-left _ _ e);
+          read-only = same _ _ (and-right (Bool·beq (isCarried (placeAt a)) (among carriedRows a)) _ e);
+        }
+
+    above : 256 ≤ a → AsListed a
+    above h =
+        let p : placeAt a ≡ Absent = place-rung a .beyond (omega arith) in
+        record {
+          carried = ap isCarried p ∙ sym (past carriedRows refl a (omega arith));
+          read-only = ap isReadOnly p ∙ sym (past readOnlyRows refl a (omega arith));
+        }
+
+-- "There are 85", and none above
+pub carries-85 : countBelow 256 (λ a. isCarried (placeAt a)) ≡ 85
+unfolding placeAt settingAt statusAt targetAt
+carries-85 = refl

@@ -1,0 +1,84 @@
+-- "There are 85": which register stands at an address.
+use Prim.Native.Nat.{ℕ, _-_, _/_, _%_}
+use mathlib.Core.Bool.{Bool, true, false, _&&_}
+use mathlib.Core.List.{List, [], _∷_}
+use lib.Dec.{leb, ltb, eqb}
+use Rattle.rules.specs.Types.{StatusRegister, Faults2, Faults1, Count, OtherCount, Output, BoxRegister, Control, Frequency, Mask2, Mask1, Options, ChannelRegister, Config, Dynamics, Target, TargetCount, Window, Place, Absent, ReadOnly, Shared, Own}
+use Rattle.rules.specs.Basics.{if_then_else_, some}
+
+-- "the high byte first": the odd bytes of a row of words are the low ones
+abbrev pub isLow : ℕ → Bool
+isLow n = eqb (n % 2) 1
+
+-- 00h to 17h
+unfoldable pub settingAt : ℕ → Place
+settingAt a =
+    if ltb a 0x01 then Shared Control
+    else if ltb a 0x02 then Shared Frequency
+    else if ltb a 0x08 then Own Config (a - 0x02)
+    else if ltb a 0x0E then Own Dynamics (a - 0x08)
+    else if ltb a 0x10 then Absent
+    else if ltb a 0x11 then ReadOnly Faults2
+    else if ltb a 0x12 then ReadOnly Faults1
+    else if ltb a 0x13 then Shared Mask2
+    else if ltb a 0x14 then Shared Mask1
+    else if ltb a 0x15 then Shared Options
+    else Absent
+
+-- 18h to 3Fh
+unfoldable pub statusAt : ℕ → Place
+statusAt a =
+    if ltb a 0x24 then ReadOnly (Count ((a - 0x18) / 2) (isLow (a - 0x18)))
+    else if ltb a 0x30 then ReadOnly (OtherCount (isLow (a - 0x24)))
+    else if ltb a 0x3C then ReadOnly (Output ((a - 0x30) / 2) (isLow (a - 0x30)))
+    else Absent
+
+-- 40h and above
+unfoldable pub targetAt : ℕ → Place
+targetAt a =
+    if ltb a 0x4C then Own (Target (isLow (a - 0x40))) ((a - 0x40) / 2)
+    else if ltb a 0x50 then Absent
+    else if ltb a 0x5C then Own (TargetCount (isLow (a - 0x50))) ((a - 0x50) / 2)
+    else if ltb a 0x60 then Absent
+    else if ltb a 0x66 then Own Window (a - 0x60)
+    else Absent
+
+unfoldable pub placeAt : ℕ → Place
+placeAt a =
+    if ltb a 0x18 then settingAt a
+    else if ltb a 0x40 then statusAt a
+    else targetAt a
+
+-- ---- the paper's two lists, for the theorem that the map carries just these
+
+-- an address from the first to the last of a row
+pub record Row : Type 0 where
+  pub first : ℕ
+  pub last : ℕ
+
+abbrev pub to : ℕ → ℕ → Row
+to first last = record { first = first; last = last }
+
+abbrev pub among : List Row → ℕ → Bool
+among rows a = some (λ row. leb (row .first) a && leb a (row .last)) rows
+
+-- "00h to 0Dh, 10h to 14h, 18h to 3Bh, 40h to 4Bh, 50h to 5Bh, 60h to 65h"
+abbrev pub carriedRows : List Row
+carriedRows = to 0x00 0x0D ∷ to 0x10 0x14 ∷ to 0x18 0x3B ∷ to 0x40 0x4B ∷ to 0x50 0x5B ∷ to 0x60 0x65 ∷ []
+
+-- "Read-only: 10h, 11h, 18h to 3Bh"
+abbrev pub readOnlyRows : List Row
+readOnlyRows = to 0x10 0x10 ∷ to 0x11 0x11 ∷ to 0x18 0x3B ∷ []
+
+-- whether a register stands there, and whether it can only be read
+abbrev pub isCarried : Place → Bool
+isCarried Absent = false
+isCarried (ReadOnly r) = true
+isCarried (Shared r) = true
+isCarried (Own r i) = true
+
+abbrev pub isReadOnly : Place → Bool
+isReadOnly Absent = false
+isReadOnly (ReadOnly r) = true
+isReadOnly (Shared r) = false
+isReadOnly (Own r i) = false

@@ -1,0 +1,55 @@
+-- The call read.
+use Prim.Native.Nat.{ℕ, _+_}
+use mathlib.Core.Bool.{Bool, true, false}
+use lib.Dec.{eqb}
+use Rattle.rules.specs.Types.{Channel, State, StatusRegister, Faults2, Faults1, Count, OtherCount, Output, BoxRegister, Control, Frequency, Mask2, Mask1, Options, ChannelRegister, Config, Dynamics, Target, TargetCount, Window, Place, Absent, ReadOnly, Shared, Own, ReadAnswer}
+use Rattle.rules.specs.Basics.{if_then_else_, keep, flag}
+use Rattle.rules.specs.Registers.{channel, targetCount, withTimer}
+use Rattle.rules.specs.Words.{dutyWord, countWord, outputWord, wordByte}
+use Rattle.rules.specs.Map.{placeAt}
+use Rattle.rules.specs.Duty.{faultByte, conditionsOf, outputDuty}
+use Rattle.rules.specs.Valid.{validOf}
+use Rattle.rules.specs.Write.{accessed}
+use Rattle.rules.specs.Refusals.{accepted, stateNotValid, notCarried, readAnswer}
+
+-- 00h with its status bit, 01h, 12h, 13h, 14h
+unfoldable pub boxByte : State → BoxRegister → ℕ
+boxByte s Control = keep 7 1 (s .registers .control) + flag (s .timer .status)
+boxByte s Frequency = s .registers .frequency
+boxByte s Mask2 = s .registers .mask2
+boxByte s Mask1 = s .registers .mask1
+boxByte s Options = s .registers .options
+
+-- 02h to 0Dh, 40h to 4Bh, 50h to 5Bh, 60h to 65h
+unfoldable pub channelByte : Channel → ChannelRegister → ℕ
+channelByte ch Config = ch .config
+channelByte ch Dynamics = ch .dynamics
+channelByte ch (Target low) = wordByte low (dutyWord (ch .target))
+channelByte ch (TargetCount low) = wordByte low (countWord (targetCount ch))
+channelByte ch Window = ch .window
+
+-- "10h reads 0"; 11h; 18h to 2Fh: "Those of tachometers 7 to 12 (24h on) read FFE0h"; 30h to 3Bh
+unfoldable pub statusByte : State → StatusRegister → ℕ
+statusByte s Faults2 = 0
+statusByte s Faults1 = faultByte (s .channels)
+statusByte s (Count i low) = wordByte low (countWord (channel s i .count))
+statusByte s (OtherCount low) = wordByte low 0xFFE0
+statusByte s (Output i low) = wordByte low (outputWord (outputDuty (conditionsOf s) (channel s i)))
+
+-- "A read of 00h then clears the status bit"
+abbrev pub statusCleared : State → State
+statusCleared s = withTimer s (record { clock = s .timer .clock; idle = s .timer .idle; expired = s .timer .expired; status = false })
+
+abbrev pub afterRead : State → ℕ → State
+afterRead s a = accessed (if eqb a 0x00 then statusCleared s else s)
+
+-- refusal 2, or the byte "from the state before it". "After a refused read the byte is 0"
+unfoldable pub readAt : State → ℕ → Place → ReadAnswer
+readAt s a Absent = readAnswer notCarried 0 s
+readAt s a (ReadOnly r) = readAnswer accepted (statusByte s r) (afterRead s a)
+readAt s a (Shared r) = readAnswer accepted (boxByte s r) (afterRead s a)
+readAt s a (Own r i) = readAnswer accepted (channelByte (channel s i) r) (afterRead s a)
+
+-- refusal 1 comes before it
+unfoldable pub readOf : State → ℕ → ReadAnswer
+readOf s a = if validOf s then readAt s a (placeAt a) else readAnswer stateNotValid 0 s

@@ -1,0 +1,19 @@
+-- The types of src/, under short names.
+pub use Rattle.rules.specs.declared.Channel.{Channel}
+pub use Rattle.rules.specs.declared.Registers.{Registers}
+pub use Rattle.rules.specs.declared.StartValues.{StartValues}
+pub use Rattle.rules.specs.declared.Timer.{Timer}
+pub use Rattle.rules.specs.declared.State.{State}
+pub use Rattle.rules.specs.declared.Conditions.{Conditions}
+pub use Rattle.rules.specs.declared.Override.{Override}
+pub use Rattle.rules.specs.declared.Override.the-variants.{None, Duty}
+pub use Rattle.rules.specs.declared.BoxRegister.{BoxRegister}
+pub use Rattle.rules.specs.declared.BoxRegister.the-variants.{Control, Frequency, Mask2, Mask1, Options}
+pub use Rattle.rules.specs.declared.ChannelRegister.{ChannelRegister}
+pub use Rattle.rules.specs.declared.ChannelRegister.the-variants.{Config, Dynamics, Target, TargetCount, Window}
+pub use Rattle.rules.specs.declared.StatusRegister.{StatusRegister}
+pub use Rattle.rules.specs.declared.StatusRegister.the-variants.{Faults2, Faults1, Count, OtherCount, Output}
+pub use Rattle.rules.specs.declared.Place.{Place}
+pub use Rattle.rules.specs.declared.Place.the-variants.{Absent, ReadOnly, Shared, Own}
+pub use Rattle.rules.specs.declared.Answer.{Answer}
+pub use Rattle.rules.specs.declared.ReadAnswer.{ReadAnswer}

@@ -1,0 +1,56 @@
+-- A valid state, which the paper calls sound.
+use Prim.Native.Nat.{ℕ}
+use mathlib.Core.Bool.{Bool, not, _&&_, _||_}
+use lib.Dec.{leb, ltb, eqb}
+use Rattle.rules.specs.Types.{Channel, Registers, StartValues, Timer, State}
+use Rattle.rules.specs.Basics.{if_then_else_, _⇒_, every}
+use Rattle.rules.specs.Registers.{standby, watchdogCode, monitorOnly, targetCount, controlKept, dynamicsKept, maskKept, optionsKept, configRefused}
+use Rattle.rules.specs.Time.{watchdogLimit}
+
+-- "each field is in range, unkept bits are 0, refusal 4's bits are clear": a channel's settings, and its results
+abbrev pub validSettings : Channel → Bool
+validSettings ch =
+    not (configRefused (ch .config))
+    && eqb (dynamicsKept (ch .dynamics)) (ch .dynamics)
+    && ltb (ch .target) 512
+    && ltb (targetCount ch) 2048
+
+abbrev pub validResults : Channel → Bool
+validResults ch = ltb (ch .count) 2048 && leb (ch .queue) 6
+
+-- "a channel in monitor or a box in standby has ramp value and spin-up time 0, a running spin-up has ramp value 511"
+abbrev pub validMotion : Bool → Channel → Bool
+validMotion stopped ch =
+    ltb (ch .ramp) 512
+    && leb (ch .spin) 1024
+    && (stopped ⇒ (eqb (ch .ramp) 0 && eqb (ch .spin) 0))
+    && (ltb 0 (ch .spin) ⇒ eqb (ch .ramp) 511)
+
+unfoldable pub validChannel : Bool → Channel → Bool
+validChannel inStandby ch = validSettings ch && validResults ch && validMotion (inStandby || monitorOnly ch) ch
+
+-- "unkept bits are 0", of the registers of the box
+unfoldable pub validRegisters : Registers → Bool
+validRegisters r =
+    eqb (controlKept (r .control)) (r .control)
+    && eqb (maskKept (r .mask2)) (r .mask2)
+    && eqb (maskKept (r .mask1)) (r .mask1)
+    && eqb (optionsKept (r .options)) (r .options)
+
+-- "each field is in range", of the pin-set values: "watchdog code, spin-up code (each 0 to 3), power-on target (0 to 511)"
+unfoldable pub validStart : StartValues → Bool
+validStart v = ltb (v .watchdog) 4 && ltb (v .spinup) 4 && ltb (v .target) 512
+
+-- "watchdog off means idle 0 and not expired, and otherwise idle is below the limit and not expired, or at it and expired"
+unfoldable pub validTimer : ℕ → Timer → Bool
+validTimer code t =
+    if eqb code 0 then eqb (t .idle) 0 && not (t .expired)
+    else if t .expired then eqb (t .idle) (watchdogLimit code)
+    else ltb (t .idle) (watchdogLimit code)
+
+unfoldable pub validOf : State → Bool
+validOf s =
+    validRegisters (s .registers)
+    && validStart (s .start)
+    && validTimer (watchdogCode (s .registers)) (s .timer)
+    && every (validChannel (standby (s .registers))) (s .channels)

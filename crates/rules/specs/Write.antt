@@ -1,0 +1,82 @@
+-- The call write.
+use Prim.Native.Nat.{ℕ}
+use mathlib.Core.Bool.{Bool, true, false}
+use mathlib.Core.List.{map}
+use lib.ListN.{set}
+use Rattle.rules.specs.Types.{Channel, State, BoxRegister, Control, Frequency, Mask2, Mask1, Options, ChannelRegister, Config, Dynamics, Target, TargetCount, Window, Place, Absent, ReadOnly, Shared, Own, Answer}
+use Rattle.rules.specs.Basics.{if_then_else_, bit}
+use Rattle.rules.specs.Registers.{channel, registers, targetCount, controlKept, dynamicsKept, maskKept, optionsKept, configRefused, withSettings, withResults, withMotion, withChannels, withRegisters, withTimer}
+use Rattle.rules.specs.Words.{dutyWord, wordDuty, countWord, wordCount, withByte}
+use Rattle.rules.specs.Map.{placeAt}
+use Rattle.rules.specs.Valid.{validOf}
+use Rattle.rules.specs.Start.{asAtStart}
+use Rattle.rules.specs.Refusals.{accepted, stateNotValid, notCarried, readOnly, configNotAllowed, answer}
+
+-- "Each accepted read or write sets the idle count to 0 and ends an expiry"
+abbrev pub accessed : State → State
+accessed s = withTimer s (record { clock = s .timer .clock; idle = 0; expired = false; status = s .timer .status })
+
+-- ---- a channel's register
+
+-- ramp value and spin-up time become 0; fault bit and queue count become 0
+abbrev pub stopped : Channel → Channel
+stopped ch = withMotion ch 0 0
+
+abbrev pub cleared : Channel → Channel
+cleared ch = withResults ch (ch .count) 0 false
+
+-- "To a fan configuration with bit 4: that channel's ramp value and spin-up time become 0. To either byte of a target
+-- duty: that channel's fault bit and queue count become 0." "Each byte of a two-byte target takes effect when it is written"
+unfoldable pub channelWritten : Channel → ℕ → ChannelRegister → Channel
+channelWritten ch b Config =
+    let next = withSettings ch b (ch .dynamics) (ch .window) (ch .target) (targetCount ch) in
+    if bit 4 b then stopped next else next
+channelWritten ch b Dynamics = withSettings ch (ch .config) (dynamicsKept b) (ch .window) (ch .target) (targetCount ch)
+channelWritten ch b (Target low) =
+    cleared (withSettings ch (ch .config) (ch .dynamics) (ch .window) (wordDuty (withByte low (dutyWord (ch .target)) b)) (targetCount ch))
+channelWritten ch b (TargetCount low) =
+    withSettings ch (ch .config) (ch .dynamics) (ch .window) (ch .target) (wordCount (withByte low (countWord (targetCount ch)) b))
+channelWritten ch b Window = withSettings ch (ch .config) (ch .dynamics) b (ch .target) (targetCount ch)
+
+-- refusal 4 speaks of a fan configuration alone
+abbrev pub byteRefused : ChannelRegister → ℕ → Bool
+byteRefused Config b = configRefused b
+byteRefused Dynamics b = false
+byteRefused (Target low) b = false
+byteRefused (TargetCount low) b = false
+byteRefused Window b = false
+
+-- ---- a register of the box
+
+-- "To 00h with bit 6: everything but clock and pin level as at start, the other bits ignored"
+abbrev pub reset : State → State
+reset s = asAtStart (s .start) (s .timer .clock) (s .pin)
+
+-- "To 00h with bit 7 and not 6: all ramp values and spin-up times become 0." Else the byte goes into its register, less
+-- the bits that it does not keep
+unfoldable pub boxWritten : State → ℕ → BoxRegister → State
+boxWritten s b Control =
+    let r = s .registers in
+    let next = withRegisters s (registers (controlKept b) (r .frequency) (r .mask2) (r .mask1) (r .options)) in
+    if bit 6 b then reset s
+    else if bit 7 b then withChannels next (map stopped (s .channels))
+    else next
+boxWritten s b Frequency = let r = s .registers in withRegisters s (registers (r .control) b (r .mask2) (r .mask1) (r .options))
+boxWritten s b Mask2 = let r = s .registers in withRegisters s (registers (r .control) (r .frequency) (maskKept b) (r .mask1) (r .options))
+boxWritten s b Mask1 = let r = s .registers in withRegisters s (registers (r .control) (r .frequency) (r .mask2) (maskKept b) (r .options))
+boxWritten s b Options = let r = s .registers in withRegisters s (registers (r .control) (r .frequency) (r .mask2) (r .mask1) (optionsKept b))
+
+-- ---- the call
+
+-- refusals 2, 3 and 4, by what stands at the address
+unfoldable pub writeAt : State → ℕ → Place → Answer
+writeAt s b Absent = answer notCarried s
+writeAt s b (ReadOnly r) = answer readOnly s
+writeAt s b (Shared r) = answer accepted (accessed (boxWritten s b r))
+writeAt s b (Own r i) =
+    if byteRefused r b then answer configNotAllowed s
+    else answer accepted (accessed (withChannels s (set (s .channels) i (channelWritten (channel s i) b r))))
+
+-- refusal 1 comes before them
+unfoldable pub writeOf : State → ℕ → ℕ → Answer
+writeOf s a b = if validOf s then writeAt s b (placeAt a) else answer stateNotValid s
