@@ -2,6 +2,7 @@
 pub mod Tests
 pub mod Words
 pub mod Map
+pub mod Each
 pub mod Faults
 pub mod Valid
 pub mod Kept

@@ -12,9 +12,13 @@ use Rattle.rules.specs.Valid.{validOf}
 use Rattle.rules.specs.Write.{accessed}
 use Rattle.rules.specs.Refusals.{accepted, stateNotValid, notCarried, readAnswer}
 
--- 00h with its status bit, 01h, 12h, 13h, 14h
+-- 00h: bits 7:1, and bit 0 watchdog status
+abbrev pub controlByte : ℕ → Bool → ℕ
+controlByte control status = keep 7 1 control + flag status
+
+-- 00h, 01h, 12h, 13h, 14h
 unfoldable pub boxByte : State → BoxRegister → ℕ
-boxByte s Control = keep 7 1 (s .registers .control) + flag (s .timer .status)
+boxByte s Control = controlByte (s .registers .control) (s .timer .status)
 boxByte s Frequency = s .registers .frequency
 boxByte s Mask2 = s .registers .mask2
 boxByte s Mask1 = s .registers .mask1

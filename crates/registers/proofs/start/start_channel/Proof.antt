@@ -1,0 +1,14 @@
+use native.Mathlib.Omega.{arith}
+use Rattle.rules.proofs.Valid.{start-parts}
+use borrow.Author.Needs.{needs}
+use Rattle.registers.proofs.start.start_channel.Statement.{statement}
+use Rattle.registers.proofs.start.start_channel.Tie as tie
+
+mul-t2 : tie.Need-mul-t2
+mul-t2 c = omega (arith, start-parts (c .before .args .start) (c .before .pre))
+
+returns : tie.Need-returns
+returns c = search needs
+
+pub start-channel-spec : {M : Type 1} → statement M
+start-channel-spec = tie.close (tie.spec mul-t2 returns)
