@@ -1,7 +1,7 @@
 // Whether a state is valid: the test of refusal 1.
 ghost use mathlib.Core.Path.{_≡_};
-ghost use Prim.Native.Nat.{_<_};
 ghost use Rattle.rules.specs.Basics.{every};
+ghost use Rattle.rules.specs.Registers.{watchdogCode};
 ghost use Rattle.rules.specs.Time.{watchdogLimit};
 ghost use Rattle.rules.specs.Valid.{validSettings, validResults, validMotion, validChannel, validRegisters, validStart, validTimer, validOf};
 use crate::kept::config_refused;
@@ -77,21 +77,20 @@ pub fn valid_start(start: StartValues) -> bool
 const WATCHDOG_LIMITS: [u16; 4] = [0, 2560, 5120, 15360];
 
 // The idle ticks after which the watchdog expires, 0 where it is off.
-pub fn watchdog_limit(code: u8) -> u16
-    requires { ⌜ code < 4 ⌝ }
-    ensures { λ r. ⌜ r ≡ watchdogLimit code ⌝ }
+pub fn watchdog_limit(registers: Registers) -> u16
+    ensures { λ r. ⌜ r ≡ watchdogLimit (watchdogCode registers) ⌝ }
 {
+    let code = registers.control / 2 % 4;
     WATCHDOG_LIMITS[code as usize]
 }
 
-fn valid_timer(code: u8, timer: Timer) -> bool
-    requires { ⌜ code < 4 ⌝ }
-    ensures { λ r. ⌜ r ≡ validTimer code timer ⌝ }
+fn valid_timer(registers: Registers, timer: Timer) -> bool
+    ensures { λ r. ⌜ r ≡ validTimer (watchdogCode registers) timer ⌝ }
 {
-    if code == 0 {
+    if registers.control / 2 % 4 == 0 {
         return (timer.idle == 0) & !timer.expired;
     }
-    let limit = watchdog_limit(code);
+    let limit = watchdog_limit(registers);
     if timer.expired {
         return timer.idle == limit;
     }
@@ -107,6 +106,6 @@ pub fn valid(state: State) -> bool
     let channels = state.channels;
     valid_registers(registers)
         & valid_start(start)
-        & valid_timer(registers.control / 2 % 4, timer)
+        & valid_timer(registers, timer)
         & valid_channels(registers.control / 128 % 2 == 1, channels)
 }

@@ -2,9 +2,9 @@
 ghost use mathlib.Core.Path.{_≡_};
 ghost use mathlib.Core.Bool.{true};
 ghost use Prim.Native.Nat.{_<_};
+ghost use Rattle.rules.specs.Map.{statusIndex};
 ghost use Rattle.rules.specs.Valid.{validOf};
 ghost use Rattle.rules.specs.Read.{controlByte, boxByte, channelByte, statusByte, afterRead, readOf};
-ghost use Rattle.rules.proofs.Map.{statusIndex};
 use crate::map::place_at;
 use crate::write::accessed;
 use device::duty::conditions;

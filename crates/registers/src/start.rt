@@ -2,7 +2,7 @@
 ghost use mathlib.Core.Path.{_≡_};
 ghost use mathlib.Core.Bool.{true};
 ghost use Rattle.rules.specs.Valid.{validStart, validOf};
-ghost use Rattle.rules.specs.Refusals.{startOutOfRange, answer};
+ghost use Rattle.rules.specs.Calls.{startOutOfRange, answer};
 ghost use Rattle.rules.specs.Start.{startChannel, asAtStart, zeroState, startOf};
 use rules::ACCEPTED;
 use rules::Answer;
@@ -32,7 +32,7 @@ fn start_channel(start: StartValues) -> Channel
 }
 
 // The state as at start, but for the clock and the pin level.
-pub fn as_at_start(start: StartValues, clock: u32, pin: bool) -> State
+pub(crate) fn as_at_start(start: StartValues, clock: u32, pin: bool) -> State
     requires { ⌜ validStart start ≡ true ⌝ }
     ensures { λ r. ⌜ r ≡ asAtStart start clock pin ⌝ }
 {

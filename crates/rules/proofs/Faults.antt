@@ -12,7 +12,7 @@ use lib.Seq.{drop-cons}
 use borrow.Author.Tests.{eq-eqb, ne-eqb, eqb-true, eqb-false}
 use Rattle.rules.specs.Types.{Channel}
 use Rattle.rules.specs.Basics.{some, flag}
-use Rattle.rules.specs.Registers.{blank}
+use Rattle.rules.specs.State.{blank}
 use Rattle.rules.specs.Duty.{faultByte}
 use Rattle.rules.proofs.Tests.{flag-le}
 

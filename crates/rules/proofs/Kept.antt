@@ -10,15 +10,16 @@ use lib.ListN.{set}
 use borrow.Author.Tests.{eq-eqb, lt-ltb}
 use Rattle.rules.specs.Types.{Channel, Registers, StartValues, Timer, State, BoxRegister, Control, Frequency, Mask2, Mask1, Options, ChannelRegister, Config, Dynamics, Target, TargetCount, Window, Place, Absent, ReadOnly, Shared, Own, Answer, ReadAnswer}
 use Rattle.rules.specs.Basics.{if_then_else_, _⇒_, every, bit}
-use Rattle.rules.specs.Registers.{standby, watchdogCode, monitorOnly, controlKept, dynamicsKept, maskKept, optionsKept, configRefused, blank, targetCount, channel, withSettings, withChannels, withRegisters, registers}
+use Rattle.rules.specs.State.{blank, channel, withSettings, withChannels, withRegisters, registers}
+use Rattle.rules.specs.Registers.{standby, watchdogCode, monitorOnly, controlKept, dynamicsKept, maskKept, optionsKept, configRefused, targetCount}
 use Rattle.rules.specs.Words.{withByte, dutyWord, countWord}
 use Rattle.rules.specs.Time.{watchdogLimit}
 use Rattle.rules.specs.Map.{placeAt}
 use Rattle.rules.specs.Valid.{validSettings, validResults, validMotion, validChannel, validRegisters, validStart, validTimer, validOf}
 use Rattle.rules.specs.Start.{startChannel, asAtStart, zeroState, startOf}
-use Rattle.rules.specs.Write.{accessed, stopped, cleared, channelWritten, byteRefused, reset, boxWritten, writeAt, writeOf}
+use Rattle.rules.specs.Write.{stopped, cleared, channelWritten, byteRefused, reset, boxWritten, writeAt, writeOf}
 use Rattle.rules.specs.Read.{statusCleared, afterRead, readAt, readOf}
-use Rattle.rules.specs.Refusals.{stateNotValid, answer, readAnswer}
+use Rattle.rules.specs.Calls.{stateNotValid, answer, readAnswer, accessed}
 use Rattle.rules.proofs.Tests.{same, choice, and-left, and-right, and-both, allBelow, all-below, every-at, every-set, every-map, every-replicate}
 use Rattle.rules.proofs.Valid.{Parts, parts, valid-of-parts, ChannelParts, channel-parts, valid-of-channel-parts, SettingsParts, settings-parts, valid-of-settings-parts, RegistersParts, registers-parts, valid-of-registers-parts, StartParts, start-parts, four, of-four}
 
@@ -221,7 +222,7 @@ box-written s b h Options p =
 
 -- ---- a channel's register
 
-blank-valid : (inStandby : Bool) → validChannel inStandby blank ≡ true
+pub blank-valid : (inStandby : Bool) → validChannel inStandby blank ≡ true
 unfolding validChannel
 blank-valid true = refl
 blank-valid false = refl

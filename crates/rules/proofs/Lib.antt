@@ -6,3 +6,4 @@ pub mod Each
 pub mod Faults
 pub mod Valid
 pub mod Kept
+pub mod Duty

@@ -7,24 +7,10 @@ use native.Mathlib.Omega.{arith}
 use native.Mathlib.Decide.{decLt}
 use lib.Dec.{ltb}
 use borrow.Author.Tests.{ltb-true, ltb-false, lt-leb}
-use Rattle.rules.specs.Types.{StatusRegister, Faults2, Faults1, Count, OtherCount, Output, ChannelRegister, Place, Absent, ReadOnly, Shared, Own}
+use Rattle.rules.specs.Types.{StatusRegister, ChannelRegister, Place, Absent, ReadOnly, Shared, Own}
 use Rattle.rules.specs.Basics.{if_then_else_, flag, every}
-use Rattle.rules.specs.Map.{settingAt, statusAt, targetAt, placeAt, Row, among, carriedRows, readOnlyRows, isCarried, isReadOnly}
+use Rattle.rules.specs.Map.{settingAt, statusAt, targetAt, placeAt, Row, among, carriedRows, readOnlyRows, isCarried, isReadOnly, statusIndex, indexOf}
 use Rattle.rules.proofs.Tests.{choice, and-left, and-right, same, allBelow, all-below}
-
--- the channel that a place belongs to, 0 where it belongs to none
-abbrev pub statusIndex : StatusRegister → ℕ
-statusIndex Faults2 = 0
-statusIndex Faults1 = 0
-statusIndex (Count i low) = i
-statusIndex (OtherCount low) = 0
-statusIndex (Output i low) = i
-
-abbrev indexOf : Place → ℕ
-indexOf Absent = 0
-indexOf (ReadOnly r) = statusIndex r
-indexOf (Shared r) = 0
-indexOf (Own r i) = i
 
 -- what holds of every rung of the map
 record Rung (a : ℕ) (p : Place) : Type 0 where

@@ -7,7 +7,8 @@ use lib.Dec.{leb, ltb, eqb}
 use borrow.Author.Tests.{ltb-true}
 use Rattle.rules.specs.Types.{Channel, Registers, StartValues, Timer, State}
 use Rattle.rules.specs.Basics.{_⇒_, every}
-use Rattle.rules.specs.Registers.{standby, watchdogCode, monitorOnly, targetCount, controlKept, dynamicsKept, maskKept, optionsKept, configRefused, blank, channel}
+use Rattle.rules.specs.State.{blank, channel}
+use Rattle.rules.specs.Registers.{standby, watchdogCode, monitorOnly, targetCount, controlKept, dynamicsKept, maskKept, optionsKept, configRefused}
 use Rattle.rules.specs.Time.{watchdogLimit}
 use Rattle.rules.specs.Valid.{validSettings, validResults, validMotion, validChannel, validRegisters, validStart, validTimer, validOf}
 use Rattle.rules.proofs.Tests.{and-left, and-right, and-both, allBelow, all-below, every-at}

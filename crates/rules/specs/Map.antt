@@ -49,6 +49,20 @@ placeAt a =
     else if ltb a 0x40 then statusAt a
     else targetAt a
 
+-- the channel that a register belongs to, counted from 0; 0 where it belongs to none
+abbrev pub statusIndex : StatusRegister → ℕ
+statusIndex Faults2 = 0
+statusIndex Faults1 = 0
+statusIndex (Count i low) = i
+statusIndex (OtherCount low) = 0
+statusIndex (Output i low) = i
+
+abbrev pub indexOf : Place → ℕ
+indexOf Absent = 0
+indexOf (ReadOnly r) = statusIndex r
+indexOf (Shared r) = 0
+indexOf (Own r i) = i
+
 -- ---- the paper's two lists, for the theorem that the map carries just these
 
 -- an address from the first to the last of a row

@@ -4,13 +4,13 @@ use mathlib.Core.Bool.{Bool, true, false}
 use lib.Dec.{eqb}
 use Rattle.rules.specs.Types.{Channel, State, StatusRegister, Faults2, Faults1, Count, OtherCount, Output, BoxRegister, Control, Frequency, Mask2, Mask1, Options, ChannelRegister, Config, Dynamics, Target, TargetCount, Window, Place, Absent, ReadOnly, Shared, Own, ReadAnswer}
 use Rattle.rules.specs.Basics.{if_then_else_, keep, flag}
-use Rattle.rules.specs.Registers.{channel, targetCount, withTimer}
+use Rattle.rules.specs.State.{channel, withTimer}
+use Rattle.rules.specs.Registers.{targetCount}
 use Rattle.rules.specs.Words.{dutyWord, countWord, outputWord, wordByte}
 use Rattle.rules.specs.Map.{placeAt}
 use Rattle.rules.specs.Duty.{faultByte, conditionsOf, outputDuty}
 use Rattle.rules.specs.Valid.{validOf}
-use Rattle.rules.specs.Write.{accessed}
-use Rattle.rules.specs.Refusals.{accepted, stateNotValid, notCarried, readAnswer}
+use Rattle.rules.specs.Calls.{accepted, stateNotValid, notCarried, readAnswer, accessed}
 
 -- 00h: bits 7:1, and bit 0 watchdog status
 abbrev pub controlByte : ℕ → Bool → ℕ

@@ -4,9 +4,9 @@ use mathlib.Core.Bool.{Bool, true, false}
 use lib.ListN.{replicate}
 use Rattle.rules.specs.Types.{Channel, StartValues, State, Answer}
 use Rattle.rules.specs.Basics.{if_then_else_}
-use Rattle.rules.specs.Registers.{blank, registers}
+use Rattle.rules.specs.State.{blank, registers}
 use Rattle.rules.specs.Valid.{validStart}
-use Rattle.rules.specs.Refusals.{accepted, startOutOfRange, answer}
+use Rattle.rules.specs.Calls.{accepted, startOutOfRange, answer}
 
 -- 02h 0XX0 0000b, 08h 0100 1100b, 18h FFE0h, 40h the pin-set target, 50h 3C00h, 60h 0000 0000b.
 -- "Ramp, spin-up, idle, clock and queue counts begin at 0"

@@ -20,10 +20,10 @@ validResults ch = ltb (ch .count) 2048 && leb (ch .queue) 6
 
 -- "a channel in monitor or a box in standby has ramp value and spin-up time 0, a running spin-up has ramp value 511"
 abbrev pub validMotion : Bool → Channel → Bool
-validMotion stopped ch =
+validMotion atRest ch =
     ltb (ch .ramp) 512
     && leb (ch .spin) 1024
-    && (stopped ⇒ (eqb (ch .ramp) 0 && eqb (ch .spin) 0))
+    && (atRest ⇒ (eqb (ch .ramp) 0 && eqb (ch .spin) 0))
     && (ltb 0 (ch .spin) ⇒ eqb (ch .ramp) 511)
 
 unfoldable pub validChannel : Bool → Channel → Bool

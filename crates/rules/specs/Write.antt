@@ -5,16 +5,13 @@ use mathlib.Core.List.{map}
 use lib.ListN.{set}
 use Rattle.rules.specs.Types.{Channel, State, BoxRegister, Control, Frequency, Mask2, Mask1, Options, ChannelRegister, Config, Dynamics, Target, TargetCount, Window, Place, Absent, ReadOnly, Shared, Own, Answer}
 use Rattle.rules.specs.Basics.{if_then_else_, bit}
-use Rattle.rules.specs.Registers.{channel, registers, targetCount, controlKept, dynamicsKept, maskKept, optionsKept, configRefused, withSettings, withResults, withMotion, withChannels, withRegisters, withTimer}
+use Rattle.rules.specs.State.{channel, registers, withSettings, withResults, withMotion, withChannels, withRegisters}
+use Rattle.rules.specs.Registers.{targetCount, controlKept, dynamicsKept, maskKept, optionsKept, configRefused}
 use Rattle.rules.specs.Words.{dutyWord, wordDuty, countWord, wordCount, withByte}
 use Rattle.rules.specs.Map.{placeAt}
 use Rattle.rules.specs.Valid.{validOf}
 use Rattle.rules.specs.Start.{asAtStart}
-use Rattle.rules.specs.Refusals.{accepted, stateNotValid, notCarried, readOnly, configNotAllowed, answer}
-
--- "Each accepted read or write sets the idle count to 0 and ends an expiry"
-abbrev pub accessed : State → State
-accessed s = withTimer s (record { clock = s .timer .clock; idle = 0; expired = false; status = s .timer .status })
+use Rattle.rules.specs.Calls.{accepted, stateNotValid, notCarried, readOnly, configNotAllowed, answer, accessed}
 
 -- ---- a channel's register
 

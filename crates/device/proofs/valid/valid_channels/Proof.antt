@@ -7,7 +7,7 @@ use lib.ListN.{length, take}
 use lib.Seq.{take-length}
 use borrow.Author.Needs.{needs}
 use Rattle.rules.specs.Basics.{every}
-use Rattle.rules.specs.Registers.{blank}
+use Rattle.rules.specs.State.{blank}
 use Rattle.rules.specs.Valid.{validChannel}
 use Rattle.rules.proofs.Tests.{every-take}
 use Rattle.device.proofs.valid.valid_channels.Statement.{statement}

@@ -3,16 +3,25 @@ use Rattle.rules.specs.Time.{watchdogLimit}
 use borrow.Author.Needs.{needs}
 use Rattle.device.proofs.valid.watchdog_limit.Statement.{statement}
 use Rattle.device.proofs.valid.watchdog_limit.Tie as tie
+use Rattle.device.proofs.valid.watchdog_limit.Reads as reads
+use Rattle.device.proofs.valid.watchdog_limit.Lts as lts
 
+-- src/valid.rt:84:21
+cast-result : tie.Need-cast-result
+cast-result c = search needs
+
+-- src/valid.rt:84:5
 mul-result : tie.Need-mul-result
 mul-result c = search needs
 
+-- src/valid.rt:84:5
 array-read-result : tie.Need-array-read-result
 array-read-result c = search needs
 
+-- src/valid.rt:80:1
 returns : tie.Need-returns
 unfolding watchdogLimit
 returns c = refl
 
 pub watchdog-limit-spec : {M : Type 1} → statement M
-watchdog-limit-spec = tie.close (tie.spec mul-result array-read-result returns)
+watchdog-limit-spec = tie.close (tie.spec cast-result mul-result array-read-result returns)

@@ -3,7 +3,7 @@ use mathlib.Core.Path.{_≡_, subst}
 use native.Mathlib.Omega.{arith}
 use Rattle.rules.specs.declared.StatusRegister.{StatusRegister}
 use Rattle.rules.specs.Read.{statusByte}
-use Rattle.rules.proofs.Map.{statusIndex}
+use Rattle.rules.specs.Map.{statusIndex}
 use borrow.Author.Needs.{needs}
 use Rattle.registers.proofs.read.status_byte.Statement.{statement}
 use Rattle.registers.proofs.read.status_byte.Tie as tie

@@ -4,7 +4,7 @@ use native.Mathlib.Numerals.{add-one}
 use native.Mathlib.Omega.{arith}
 use lib.ListN.{length, set}
 use borrow.Author.Needs.{needs}
-use Rattle.rules.specs.Registers.{blank}
+use Rattle.rules.specs.State.{blank}
 use Rattle.rules.specs.Write.{stopped}
 use Rattle.rules.proofs.Each.{firstEach, one-more, all-of-them}
 use Rattle.registers.proofs.write.all_stopped.Statement.{statement}

@@ -1,7 +1,10 @@
--- "Refusal numbers": each call tests those that it can give in the order of their numbers.
+-- What the calls share: the refusal numbers, what is given back, and what an access to a register does besides.
 use Prim.Native.Nat.{ℕ}
+use mathlib.Core.Bool.{false}
 use Rattle.rules.specs.Types.{State, Answer, ReadAnswer}
+use Rattle.rules.specs.State.{withTimer}
 
+-- "Refusal numbers", "Tested in the order of their numbers"; 0 is accepted
 abbrev pub accepted : ℕ
 accepted = 0
 
@@ -26,3 +29,7 @@ answer refusal s = record { refusal = refusal; state = s }
 
 abbrev pub readAnswer : ℕ → ℕ → State → ReadAnswer
 readAnswer refusal byte s = record { refusal = refusal; byte = byte; state = s }
+
+-- "Each accepted read or write sets the idle count to 0 and ends an expiry"
+abbrev pub accessed : State → State
+accessed s = withTimer s (record { clock = s .timer .clock; idle = 0; expired = false; status = s .timer .status })

@@ -1,0 +1,78 @@
+-- The state by its parts: a channel of it, and the parts that change together.
+use Prim.Native.Nat.{ℕ}
+use mathlib.Core.Bool.{Bool, false}
+use mathlib.Core.List.{List}
+use lib.ListN.{getD}
+use Rattle.rules.specs.Types.{Channel, Registers, Timer, State}
+
+-- a channel with every number 0 and every flag clear
+abbrev pub blank : Channel
+blank = record { config = 0; dynamics = 0; window = 0; target = 0; «target_count» = 0; count = 0; queue = 0; fault = false; ramp = 0; spin = 0 }
+
+-- the channel with index i, which is channel i + 1 of the paper
+abbrev pub channel : State → ℕ → Channel
+channel s i = getD (s .channels) i blank
+
+-- a channel with other settings; with other results; with another ramp value and spin-up time
+abbrev pub withSettings : Channel → ℕ → ℕ → ℕ → ℕ → ℕ → Channel
+withSettings ch config dynamics window target targets =
+    record {
+      config = config;
+      dynamics = dynamics;
+      window = window;
+      target = target;
+      «target_count» = targets;
+      count = ch .count;
+      queue = ch .queue;
+      fault = ch .fault;
+      ramp = ch .ramp;
+      spin = ch .spin;
+    }
+
+abbrev pub withResults : Channel → ℕ → ℕ → Bool → Channel
+withResults ch count queue fault =
+    record {
+      config = ch .config;
+      dynamics = ch .dynamics;
+      window = ch .window;
+      target = ch .target;
+      «target_count» = ch .«target_count»;
+      count = count;
+      queue = queue;
+      fault = fault;
+      ramp = ch .ramp;
+      spin = ch .spin;
+    }
+
+abbrev pub withMotion : Channel → ℕ → ℕ → Channel
+withMotion ch ramp spin =
+    record {
+      config = ch .config;
+      dynamics = ch .dynamics;
+      window = ch .window;
+      target = ch .target;
+      «target_count» = ch .«target_count»;
+      count = ch .count;
+      queue = ch .queue;
+      fault = ch .fault;
+      ramp = ramp;
+      spin = spin;
+    }
+
+-- the registers of the box, in the order of their addresses
+abbrev pub registers : ℕ → ℕ → ℕ → ℕ → ℕ → Registers
+registers control frequency mask2 mask1 options =
+    record { control = control; frequency = frequency; mask2 = mask2; mask1 = mask1; options = options }
+
+-- a state with other channels; with other registers; with another timer
+abbrev pub withChannels : State → List Channel → State
+withChannels s channels =
+    record { channels = channels; registers = s .registers; pin = s .pin; start = s .start; timer = s .timer }
+
+abbrev pub withRegisters : State → Registers → State
+withRegisters s r =
+    record { channels = s .channels; registers = r; pin = s .pin; start = s .start; timer = s .timer }
+
+abbrev pub withTimer : State → Timer → State
+withTimer s timer =
+    record { channels = s .channels; registers = s .registers; pin = s .pin; start = s .start; timer = timer }
