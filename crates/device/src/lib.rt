@@ -1,4 +1,3 @@
-// What every call needs of a state.
+// What every call needs of a state: whether it is valid, and which duty comes out of a channel.
 pub mod duty;
-pub mod kept;
 pub mod valid;

@@ -1,5 +1,4 @@
-// The register file: the calls start, read and write.
+// The register file: what stands at an address, what a register keeps of a written byte, and what every access does.
+pub mod access;
+pub mod kept;
 pub mod map;
-pub mod read;
-pub mod start;
-pub mod write;

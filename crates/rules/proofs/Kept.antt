@@ -17,7 +17,7 @@ use Rattle.rules.specs.Time.{watchdogLimit}
 use Rattle.rules.specs.Map.{placeAt}
 use Rattle.rules.specs.Valid.{validSettings, validResults, validMotion, validChannel, validRegisters, validStart, validTimer, validOf}
 use Rattle.rules.specs.Start.{startChannel, asAtStart, zeroState, startOf}
-use Rattle.rules.specs.Write.{stopped, cleared, channelWritten, byteRefused, reset, boxWritten, writeAt, writeOf}
+use Rattle.rules.specs.Write.{stopped, cleared, channelWritten, byteRefused, reset, boxWritten, ownWritten, writeAt, writeOf}
 use Rattle.rules.specs.Read.{statusCleared, afterRead, readAt, readOf}
 use Rattle.rules.specs.Calls.{stateNotValid, answer, readAnswer, accessed}
 use Rattle.rules.proofs.Tests.{same, choice, and-left, and-right, and-both, allBelow, all-below, every-at, every-set, every-map, every-replicate}
@@ -44,32 +44,37 @@ kept-again b h =
 
 -- ---- the timer after an accepted access
 
-fresh-timer : (code clock : ℕ) (status : Bool) → code < 4 →
-    validTimer code (record { clock = clock; idle = 0; expired = false; status = status }) ≡ true
+fresh-timer : (code : ℕ) (t : Timer) → t .idle ≡ 0 → t .expired ≡ false → code < 4 → validTimer code t ≡ true
 unfolding validTimer watchdogLimit
-fresh-timer code clock status h =
-    all-below 4 (λ k. validTimer k (record { clock = clock; idle = 0; expired = false; status = status })) refl code h
+fresh-timer code t i e h = rw (i, e) (all-below 4 (λ k. validTimer k (record { clock = 0; idle = 0; expired = false; status = false })) refl code h)
 
--- what an accepted access leaves is valid if all but its timer is
-record AllButTimer (s : State) : Type 0 where
+-- a state whose watchdog has just been fed, valid but for its timer: so it is valid
+record Fed (s : State) : Type 0 where
   registers : validRegisters (s .registers) ≡ true
   start : validStart (s .start) ≡ true
   channels : every (validChannel (standby (s .registers))) (s .channels) ≡ true
+  idle : s .timer .idle ≡ 0
+  expired : s .timer .expired ≡ false
 
-all-but-timer : (s : State) → validOf s ≡ true → AllButTimer s
-all-but-timer s e =
-    let p = parts s e in
-    record { registers = p .registers; start = p .start; channels = p .channels }
-
-accessed-valid : (s : State) → AllButTimer s → validOf (accessed s) ≡ true
-accessed-valid s p =
-    valid-of-parts (accessed s)
+fed-valid : (s : State) → Fed s → validOf s ≡ true
+fed-valid s f =
+    valid-of-parts s
     (record {
-      registers = p .registers;
-      start = p .start;
-      timer = fresh-timer _ (s .timer .clock) (s .timer .status) (omega arith);
-      channels = p .channels;
+      registers = f .registers;
+      start = f .start;
+      timer = fresh-timer (watchdogCode (s .registers)) (s .timer) (f .idle) (f .expired) (omega arith);
+      channels = f .channels;
     })
+
+accessed-fed : (s : State) → validOf s ≡ true → Fed (accessed s)
+accessed-fed s e =
+    let p = parts s e in
+    record { registers = p .registers; start = p .start; channels = p .channels; idle = refl; expired = refl }
+
+-- it stays so with other registers and channels that are valid together
+rebuilt-fed : (s : State) (r : Registers) (chs : List Channel) → validRegisters r ≡ true →
+    every (validChannel (standby r)) chs ≡ true → Fed s → Fed (withChannels (withRegisters s r) chs)
+rebuilt-fed s r chs v w f = record { registers = v; start = f .start; channels = w; idle = f .idle; expired = f .expired }
 
 -- ---- a channel
 
@@ -140,13 +145,15 @@ start-channel-valid inStandby v p =
       motion = stopped-motion (inStandby || monitorOnly (startChannel v)) (startChannel v);
     })
 
-as-at-start : (v : StartValues) (clock : ℕ) (pin : Bool) → validStart v ≡ true → AllButTimer (asAtStart v clock pin)
+as-at-start : (v : StartValues) (clock : ℕ) (pin : Bool) → validStart v ≡ true → Fed (asAtStart v clock pin)
 as-at-start v clock pin e =
     let p = start-parts v e in
     record {
       registers = valid-of-registers-parts _ (record { control = all-below 4 (λ code. eqb (controlKept (0x20 + code * 2)) (0x20 + code * 2)) refl (v .watchdog) (p .watchdog); mask2 = refl; mask1 = refl; options = refl });
       start = e;
       channels = every-replicate (validChannel (bit 7 (0x20 + v .watchdog * 2))) 6 (startChannel v) (start-channel-valid _ v p);
+      idle = refl;
+      expired = refl;
     }
 
 zero-valid : validOf zeroState ≡ true
@@ -158,21 +165,19 @@ unfolding startOf
 start-valid watchdog spinup target frequency =
     let v : StartValues = record { watchdog = watchdog; spinup = spinup; target = target; frequency = frequency } in
     choice (λ (x : Answer). validOf (x .state) ≡ true) (validStart v) _ _
-    (λ e. accessed-valid (asAtStart v 0 true) (as-at-start v 0 true e))
+    (λ e. fed-valid (asAtStart v 0 true) (as-at-start v 0 true e))
     (λ e. zero-valid)
 
 -- ---- a register of the box
 
 -- 00h unchanged
 others-written : (s : State) (frequency mask2 mask1 options : ℕ) → eqb (maskKept mask2) mask2 ≡ true →
-    eqb (maskKept mask1) mask1 ≡ true → eqb (optionsKept options) options ≡ true → AllButTimer s →
-    AllButTimer (withRegisters s (registers (s .registers .control) frequency mask2 mask1 options))
-others-written s frequency mask2 mask1 options e2 e1 e p =
-    record {
-      registers = valid-of-registers-parts _ (record { control = registers-parts (s .registers) (p .registers) .control; mask2 = e2; mask1 = e1; options = e });
-      start = p .start;
-      channels = p .channels;
-    }
+    eqb (maskKept mask1) mask1 ≡ true → eqb (optionsKept options) options ≡ true → Fed s →
+    Fed (withRegisters s (registers (s .registers .control) frequency mask2 mask1 options))
+others-written s frequency mask2 mask1 options e2 e1 e f =
+    rebuilt-fed s _ (s .channels)
+    (valid-of-registers-parts _ (record { control = registers-parts (s .registers) (f .registers) .control; mask2 = e2; mask1 = e1; options = e }))
+    (f .channels) f
 
 -- 00h written: in standby every channel stands still, and out of it none need
 stopped-channels : (inStandby : Bool) (chs : List Channel) → every (validChannel inStandby) chs ≡ true →
@@ -192,33 +197,36 @@ free-channels inStandby chs e =
     (record { settings = p .settings; results = p .results; motion = looser-motion _ (monitorOnly ch) ch (without-left inStandby (monitorOnly ch)) (p .motion) }))
     chs e)
 
-box-written : (s : State) (b : ℕ) → b < 256 → (r : BoxRegister) → AllButTimer s → AllButTimer (boxWritten s b r)
+box-written : (s : State) (b : ℕ) → b < 256 → (r : BoxRegister) → Fed s → Fed (boxWritten s b r)
 unfolding boxWritten
-box-written s b h Control p =
-    choice AllButTimer (bit 6 b) (reset s) _ (λ on. as-at-start (s .start) (s .timer .clock) (s .pin) (p .start))
-    (λ off. choice AllButTimer (bit 7 b) _ _
-    (λ on. record { registers = kept; start = p .start; channels = rw (standby-kept ∙ on) (stopped-channels _ (s .channels) (p .channels)) })
-    (λ off. record { registers = kept; start = p .start; channels = rw (standby-kept ∙ off) (free-channels _ (s .channels) (p .channels)) }))
+box-written s b h Control f =
+    choice Fed (bit 6 b) (reset s) _ (λ on. as-at-start (s .start) (s .timer .clock) (s .pin) (f .start))
+    (λ off. choice Fed (bit 7 b) _ _
+    (λ on. rebuilt-fed s next (map stopped (s .channels)) kept (rw (standby-kept ∙ on) (stopped-channels _ (s .channels) (f .channels))) f)
+    (λ off. rebuilt-fed s next (s .channels) kept (rw (standby-kept ∙ off) (free-channels _ (s .channels) (f .channels))) f))
   where
-    kept : validRegisters (registers (controlKept b) (s .registers .frequency) (s .registers .mask2) (s .registers .mask1) (s .registers .options)) ≡ true
+    next : Registers
+    next = registers (controlKept b) (s .registers .frequency) (s .registers .mask2) (s .registers .mask1) (s .registers .options)
+
+    kept : validRegisters next ≡ true
     kept =
-        let q = registers-parts (s .registers) (p .registers) in
-        valid-of-registers-parts _ (record { control = kept-again b h .control; mask2 = q .mask2; mask1 = q .mask1; options = q .options })
+        let q = registers-parts (s .registers) (f .registers) in
+        valid-of-registers-parts next (record { control = kept-again b h .control; mask2 = q .mask2; mask1 = q .mask1; options = q .options })
 
     standby-kept : bit 7 (controlKept b) ≡ bit 7 b
     standby-kept = same _ _ (kept-again b h .standby-bit)
-box-written s b h Frequency p =
-    let q = registers-parts (s .registers) (p .registers) in
-    others-written s b _ _ _ (q .mask2) (q .mask1) (q .options) p
-box-written s b h Mask2 p =
-    let q = registers-parts (s .registers) (p .registers) in
-    others-written s _ _ _ _ (kept-again b h .mask) (q .mask1) (q .options) p
-box-written s b h Mask1 p =
-    let q = registers-parts (s .registers) (p .registers) in
-    others-written s _ _ _ _ (q .mask2) (kept-again b h .mask) (q .options) p
-box-written s b h Options p =
-    let q = registers-parts (s .registers) (p .registers) in
-    others-written s _ _ _ _ (q .mask2) (q .mask1) (kept-again b h .options) p
+box-written s b h Frequency f =
+    let q = registers-parts (s .registers) (f .registers) in
+    others-written s b _ _ _ (q .mask2) (q .mask1) (q .options) f
+box-written s b h Mask2 f =
+    let q = registers-parts (s .registers) (f .registers) in
+    others-written s _ _ _ _ (kept-again b h .mask) (q .mask1) (q .options) f
+box-written s b h Mask1 f =
+    let q = registers-parts (s .registers) (f .registers) in
+    others-written s _ _ _ _ (q .mask2) (kept-again b h .mask) (q .options) f
+box-written s b h Options f =
+    let q = registers-parts (s .registers) (f .registers) in
+    others-written s _ _ _ _ (q .mask2) (q .mask1) (kept-again b h .options) f
 
 -- ---- a channel's register
 
@@ -227,17 +235,12 @@ unfolding validChannel
 blank-valid true = refl
 blank-valid false = refl
 
-own-written : (s : State) (b i : ℕ) → b < 256 → (r : ChannelRegister) → byteRefused r b ≡ false → AllButTimer s →
-    AllButTimer (withChannels s (set (s .channels) i (channelWritten (channel s i) b r)))
-own-written s b i h r e p =
+own-written : (s : State) (b i : ℕ) → b < 256 → (r : ChannelRegister) → byteRefused r b ≡ false → Fed s → Fed (ownWritten s b r i)
+own-written s b i h r e f =
     let inStandby = standby (s .registers) in
-    let before = channel-parts inStandby (channel s i) (every-at (validChannel inStandby) (s .channels) i blank (blank-valid inStandby) (p .channels)) in
+    let before = channel-parts inStandby (channel s i) (every-at (validChannel inStandby) (s .channels) i blank (blank-valid inStandby) (f .channels)) in
     let after = valid-of-channel-parts inStandby _ (channel-written inStandby (channel s i) b h r e before) in
-    record {
-      registers = p .registers;
-      start = p .start;
-      channels = every-set (validChannel inStandby) (s .channels) i _ after (p .channels);
-    }
+    rebuilt-fed s (s .registers) _ (f .registers) (every-set (validChannel inStandby) (s .channels) i _ after (f .channels)) f
 
 -- ---- the calls
 
@@ -249,22 +252,25 @@ module _ (s : State) (a : ℕ) (valid : validOf s ≡ true) where
       at : (p : Place) → validOf (writeAt s b p .state) ≡ true
       at Absent = valid
       at (ReadOnly r) = valid
-      at (Shared r) = accessed-valid (boxWritten s b r) (box-written s b h r (all-but-timer s valid))
+      at (Shared r) = fed-valid (boxWritten (accessed s) b r) (box-written (accessed s) b h r (accessed-fed s valid))
       at (Own r i) =
           choice (λ (x : Answer). validOf (x .state) ≡ true) (byteRefused r b) _ _ (λ on. valid)
-          (λ off. accessed-valid (withChannels s (set (s .channels) i (channelWritten (channel s i) b r)))
-          (own-written s b i h r off (all-but-timer s valid)))
+          (λ off. fed-valid (ownWritten (accessed s) b r i) (own-written (accessed s) b i h r off (accessed-fed s valid)))
 
   pub read-valid : validOf (readOf s a .state) ≡ true
   unfolding readOf readAt
   read-valid = rw valid (at (placeAt a))
     where
+      cleared-fed : Fed (accessed (statusCleared s))
+      cleared-fed =
+          let f = accessed-fed s valid in
+          record { registers = f .registers; start = f .start; channels = f .channels; idle = refl; expired = refl }
+
       after : validOf (afterRead s a) ≡ true
       after =
           choice (λ (t : State). validOf (accessed t) ≡ true) (eqb a 0x00) (statusCleared s) s
-          (λ on. let p = all-but-timer s valid in
-          accessed-valid (statusCleared s) (record { registers = p .registers; start = p .start; channels = p .channels }))
-          (λ off. accessed-valid s (all-but-timer s valid))
+          (λ on. fed-valid (accessed (statusCleared s)) cleared-fed)
+          (λ off. fed-valid (accessed s) (accessed-fed s valid))
 
       at : (p : Place) → validOf (readAt s a p .state) ≡ true
       at Absent = valid

@@ -65,14 +65,18 @@ boxWritten s b Options = let r = s .registers in withRegisters s (registers (r .
 
 -- ---- the call
 
+-- the byte goes into the register of one channel
+abbrev pub ownWritten : State → ℕ → ChannelRegister → ℕ → State
+ownWritten s b r i = withChannels s (set (s .channels) i (channelWritten (channel s i) b r))
+
 -- refusals 2, 3 and 4, by what stands at the address
 unfoldable pub writeAt : State → ℕ → Place → Answer
 writeAt s b Absent = answer notCarried s
 writeAt s b (ReadOnly r) = answer readOnly s
-writeAt s b (Shared r) = answer accepted (accessed (boxWritten s b r))
+writeAt s b (Shared r) = answer accepted (boxWritten (accessed s) b r)
 writeAt s b (Own r i) =
     if byteRefused r b then answer configNotAllowed s
-    else answer accepted (accessed (withChannels s (set (s .channels) i (channelWritten (channel s i) b r))))
+    else answer accepted (ownWritten (accessed s) b r i)
 
 -- refusal 1 comes before them
 unfoldable pub writeOf : State → ℕ → ℕ → Answer

@@ -1,3 +1,4 @@
+-- `output_word` meets its contract. Assumes nothing.
 use native.Mathlib.Nat.{add-zero}
 use borrow.Author.Tests.{ne-eqb}
 use borrow.Author.Needs.{needs}

@@ -1,3 +1,4 @@
+-- `with_byte` meets its contract. Assumes nothing.
 use borrow.Author.Needs.{needs}
 use Rattle.words.proofs.with_byte.Statement.{statement}
 use Rattle.words.proofs.with_byte.Tie as tie

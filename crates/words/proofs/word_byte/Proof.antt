@@ -1,3 +1,4 @@
+-- `word_byte` meets its contract. Assumes nothing.
 use borrow.Author.Needs.{needs}
 use Rattle.words.proofs.word_byte.Statement.{statement}
 use Rattle.words.proofs.word_byte.Tie as tie

@@ -1,3 +1,4 @@
+-- `duty::conditions` meets its contract. Assumes nothing.
 use Rattle.rules.specs.Duty.{conditionsOf}
 use Rattle.rules.proofs.Faults.{some-fault}
 use borrow.Author.Needs.{needs}

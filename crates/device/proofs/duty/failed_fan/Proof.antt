@@ -1,3 +1,4 @@
+-- `duty::failed_fan` meets its contract. Assumes nothing.
 use Rattle.device.proofs.duty.failed_fan.Statement.{statement}
 use Rattle.device.proofs.duty.failed_fan.Tie as tie
 

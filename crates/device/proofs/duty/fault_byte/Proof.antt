@@ -1,3 +1,4 @@
+-- `duty::fault_byte` meets its contract. The invariant: the byte so far is that of the channels from index i on. Assumes nothing.
 use Prim.Native.Nat.{_+_, _*_, _≤_, _<_}
 use mathlib.Core.Path.{_≡_, sym, _∙_, ap, ap₂}
 use native.Mathlib.Omega.{arith}

@@ -1,3 +1,4 @@
+-- `duty::output_duty` meets its contract. Assumes nothing.
 use mathlib.Core.Path.{sym, _∙_, ap}
 use Rattle.rules.specs.Duty.{dutyUnder, outputDuty}
 use borrow.Author.Needs.{needs}

@@ -1,3 +1,4 @@
+-- `duty::override_of` meets its contract. Assumes nothing.
 use borrow.Author.Tests.{eq-eqb, ne-eqb}
 use Rattle.rules.specs.Duty.{overrideOf}
 use borrow.Author.Needs.{needs}

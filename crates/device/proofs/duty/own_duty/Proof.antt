@@ -1,3 +1,4 @@
+-- `duty::own_duty` meets its contract. Assumes nothing.
 use borrow.Author.Tests.{lt-ltb, le-ltb}
 use Rattle.device.proofs.duty.own_duty.Statement.{statement}
 use Rattle.device.proofs.duty.own_duty.Tie as tie

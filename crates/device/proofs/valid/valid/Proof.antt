@@ -1,3 +1,4 @@
+-- `valid::valid` meets its contract. Assumes nothing.
 use Rattle.rules.specs.Valid.{validOf}
 use borrow.Author.Needs.{needs}
 use Rattle.device.proofs.valid.valid.Statement.{statement}

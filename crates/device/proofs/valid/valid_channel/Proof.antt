@@ -1,3 +1,4 @@
+-- `valid::valid_channel` meets its contract. Assumes nothing.
 use Rattle.rules.specs.Valid.{validChannel}
 use borrow.Author.Needs.{needs}
 use Rattle.device.proofs.valid.valid_channel.Statement.{statement}

@@ -1,3 +1,4 @@
+-- `valid::valid_channels` meets its contract. The invariant: the flag so far is that of the first i channels. Assumes nothing.
 use Prim.Native.Nat.{_-_, _≤_}
 use mathlib.Core.Path.{_≡_, refl, sym, _∙_, ap₂}
 use mathlib.Core.Bool.{_&&_}

@@ -1,3 +1,4 @@
+-- `valid::valid_registers` meets its contract. Assumes nothing.
 use Rattle.rules.specs.Valid.{validRegisters}
 use borrow.Author.Needs.{needs}
 use Rattle.device.proofs.valid.valid_registers.Statement.{statement}

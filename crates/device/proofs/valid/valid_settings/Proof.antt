@@ -1,3 +1,4 @@
+-- `valid::valid_settings` meets its contract. Assumes nothing.
 use borrow.Author.Needs.{needs}
 use Rattle.device.proofs.valid.valid_settings.Statement.{statement}
 use Rattle.device.proofs.valid.valid_settings.Tie as tie

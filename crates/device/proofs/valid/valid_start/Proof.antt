@@ -1,3 +1,4 @@
+-- `valid::valid_start` meets its contract. Assumes nothing.
 use mathlib.Core.Path.{refl}
 use Rattle.rules.specs.Valid.{validStart}
 use Rattle.device.proofs.valid.valid_start.Statement.{statement}

@@ -1,27 +1,21 @@
+-- `valid::valid_timer` meets its contract. Assumes nothing.
 use borrow.Author.Tests.{eq-eqb, ne-eqb}
 use Rattle.rules.specs.Valid.{validTimer}
 use borrow.Author.Needs.{needs}
 use Rattle.device.proofs.valid.valid_timer.Statement.{statement}
 use Rattle.device.proofs.valid.valid_timer.Tie as tie
-use Rattle.device.proofs.valid.valid_timer.Reads as reads
-use Rattle.device.proofs.valid.valid_timer.Lts as lts
-use Rattle.device.proofs.valid.watchdog_limit.Reads as watchdog-limit-reads
 
--- src/valid.rt:91:9
 returns : tie.Need-returns
 unfolding validTimer
 returns c = simp (eq-eqb _ 0 (c .before .before .if1 .taken))
 
--- src/valid.rt:93:9
 watchdog-limit-requires : tie.Need-watchdog-limit-requires
 watchdog-limit-requires c κs = search needs
 
--- src/valid.rt:95:9
 returns-2 : tie.Need-returns-2
 unfolding validTimer
 returns-2 c = simp (ne-eqb _ 0 (c .before .before .before .if1 .left), c .before .if2 .taken, c .before .before .watchdog-limit .ensures)
 
--- src/valid.rt:87:1
 returns-3 : tie.Need-returns-3
 unfolding validTimer
 returns-3 c = simp (ne-eqb _ 0 (c .before .before .before .if1 .left), c .before .if2 .left, c .before .before .watchdog-limit .ensures)

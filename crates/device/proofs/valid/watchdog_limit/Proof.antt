@@ -1,24 +1,19 @@
+-- `valid::watchdog_limit` meets its contract. Assumes nothing.
 use mathlib.Core.Path.{refl}
 use Rattle.rules.specs.Time.{watchdogLimit}
 use borrow.Author.Needs.{needs}
 use Rattle.device.proofs.valid.watchdog_limit.Statement.{statement}
 use Rattle.device.proofs.valid.watchdog_limit.Tie as tie
-use Rattle.device.proofs.valid.watchdog_limit.Reads as reads
-use Rattle.device.proofs.valid.watchdog_limit.Lts as lts
 
--- src/valid.rt:84:21
 cast-result : tie.Need-cast-result
 cast-result c = search needs
 
--- src/valid.rt:84:5
 mul-result : tie.Need-mul-result
 mul-result c = search needs
 
--- src/valid.rt:84:5
 array-read-result : tie.Need-array-read-result
 array-read-result c = search needs
 
--- src/valid.rt:80:1
 returns : tie.Need-returns
 unfolding watchdogLimit
 returns c = refl

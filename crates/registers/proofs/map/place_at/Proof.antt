@@ -1,3 +1,4 @@
+-- `map::place_at` meets its contract. Assumes nothing.
 use borrow.Author.Tests.{lt-ltb, le-ltb}
 use Rattle.rules.specs.Map.{placeAt}
 use borrow.Author.Needs.{needs}

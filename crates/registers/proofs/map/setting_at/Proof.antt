@@ -1,3 +1,4 @@
+-- `map::setting_at` meets its contract. Assumes nothing.
 use Rattle.rules.specs.Map.{settingAt}
 use Rattle.rules.proofs.Tests.{tests}
 use borrow.Author.Needs.{needs}

@@ -1,3 +1,4 @@
+-- `map::status_at` meets its contract. Assumes nothing.
 use Rattle.rules.specs.Map.{statusAt}
 use Rattle.rules.proofs.Tests.{tests}
 use borrow.Author.Needs.{needs}

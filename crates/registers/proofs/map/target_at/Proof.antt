@@ -1,3 +1,4 @@
+-- `map::target_at` meets its contract. Assumes nothing.
 use Rattle.rules.specs.Map.{targetAt}
 use Rattle.rules.proofs.Tests.{tests}
 use borrow.Author.Needs.{needs}

@@ -1,9 +1,0 @@
-use native.Mathlib.Nat.{div-one}
-use Rattle.device.proofs.kept.config_refused.Statement.{statement}
-use Rattle.device.proofs.kept.config_refused.Tie as tie
-
-returns : tie.Need-returns
-returns c = simp div-one
-
-pub config-refused-spec : {M : Type 1} → statement M
-config-refused-spec = tie.close (tie.spec returns)

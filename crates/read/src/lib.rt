@@ -1,0 +1,132 @@
+// The call read.
+ghost use mathlib.Core.Path.{_≡_};
+ghost use mathlib.Core.Bool.{true};
+ghost use Prim.Native.Nat.{_<_};
+ghost use Rattle.rules.specs.Map.{statusIndex};
+ghost use Rattle.rules.specs.Valid.{validOf};
+ghost use Rattle.rules.specs.Calls.{accepted, readAnswer};
+ghost use Rattle.rules.specs.Read.{controlByte, boxByte, channelByte, statusByte, afterRead, readOf};
+use device::duty::conditions;
+use device::duty::fault_byte;
+use device::duty::output_duty;
+use device::valid::valid;
+use registers::access::accessed;
+use registers::map::place_at;
+use rules::ACCEPTED;
+use rules::BoxRegister;
+use rules::Channel;
+use rules::ChannelRegister;
+use rules::NOT_CARRIED;
+use rules::Place;
+use rules::ReadAnswer;
+use rules::STATE_NOT_VALID;
+use rules::State;
+use rules::StatusRegister;
+use words::count_word;
+use words::duty_word;
+use words::output_word;
+use words::word_byte;
+
+fn control_byte(control: u8, status: bool) -> u8
+    ensures { λ r. ⌜ r ≡ controlByte control status ⌝ }
+{
+    if status {
+        return control / 2 % 128 * 2 + 1;
+    }
+    control / 2 % 128 * 2
+}
+
+fn box_byte(state: State, register: BoxRegister) -> u8
+    ensures { λ r. ⌜ r ≡ boxByte state register ⌝ }
+{
+    match register {
+        BoxRegister::Control => control_byte(state.registers.control, state.timer.status),
+        BoxRegister::Frequency => state.registers.frequency,
+        BoxRegister::Mask2 => state.registers.mask2,
+        BoxRegister::Mask1 => state.registers.mask1,
+        BoxRegister::Options => state.registers.options,
+    }
+}
+
+fn channel_byte(channel: Channel, register: ChannelRegister) -> u8
+    ensures { λ r. ⌜ r ≡ channelByte channel register ⌝ }
+{
+    match register {
+        ChannelRegister::Config => channel.config,
+        ChannelRegister::Dynamics => channel.dynamics,
+        ChannelRegister::Target(low) => word_byte(duty_word(channel.target), low),
+        ChannelRegister::TargetCount(low) => word_byte(count_word(channel.target_count), low),
+        ChannelRegister::Window => channel.window,
+    }
+}
+
+fn status_byte(state: State, register: StatusRegister) -> u8
+    requires { ⌜ statusIndex register < 6 ⌝ }
+    ensures { λ r. ⌜ r ≡ statusByte state register ⌝ }
+{
+    match register {
+        StatusRegister::Faults2 => 0,
+        StatusRegister::Faults1 => {
+            let channels = state.channels;
+            fault_byte(channels)
+        }
+        StatusRegister::Count(i, low) => {
+            let channel = state.channels[i];
+            word_byte(count_word(channel.count), low)
+        }
+        StatusRegister::OtherCount(low) => word_byte(0xFFE0, low),
+        StatusRegister::Output(i, low) => {
+            let channel = state.channels[i];
+            word_byte(output_word(output_duty(conditions(state), channel)), low)
+        }
+    }
+}
+
+fn after_read(state: State, address: u32) -> State
+    ensures { λ r. ⌜ r ≡ afterRead state address ⌝ }
+{
+    if address == 0x00 {
+        let mut next = state;
+        next.timer.status = false;
+        return accessed(next);
+    }
+    accessed(state)
+}
+
+fn refused(refusal: u8, state: State) -> ReadAnswer
+    ensures { λ r. ⌜ r ≡ readAnswer refusal 0 state ⌝ }
+{
+    ReadAnswer {
+        refusal: refusal,
+        byte: 0,
+        state: state,
+    }
+}
+
+fn answered(byte: u8, state: State) -> ReadAnswer
+    ensures { λ r. ⌜ r ≡ readAnswer accepted byte state ⌝ }
+{
+    ReadAnswer {
+        refusal: ACCEPTED,
+        byte: byte,
+        state: state,
+    }
+}
+
+// The byte at an address, from the state before the read.
+pub fn read(state: State, address: u32) -> ReadAnswer
+    ensures equal { λ r. ⌜ r ≡ readOf state address ⌝ }
+    ensures kept { λ r. ⌜ (validOf state ≡ true → validOf (r .state) ≡ true) ⌝ }
+{
+    if !valid(state) {
+        return refused(STATE_NOT_VALID, state);
+    }
+    let after = after_read(state, address);
+    let place = place_at(address);
+    match place {
+        Place::Absent => refused(NOT_CARRIED, state),
+        Place::ReadOnly(register) => answered(status_byte(state, register), after),
+        Place::Shared(register) => answered(box_byte(state, register), after),
+        Place::Own(register, i) => answered(channel_byte(state.channels[i], register), after),
+    }
+}

@@ -1,0 +1,53 @@
+-- `write::byte_refused` meets its contract. Assumes nothing.
+use borrow.Author.Needs.{needs}
+use Rattle.write.proofs.byte_refused.Statement.{statement}
+use Rattle.write.proofs.byte_refused.Tie as tie
+
+enum-told : tie.Need-enum-told
+enum-told c = search needs
+
+config-refused-requires : tie.Need-config-refused-requires
+config-refused-requires c κs = search needs
+
+enum-told-2 : tie.Need-enum-told-2
+enum-told-2 c = search needs
+
+enum-told-3 : tie.Need-enum-told-3
+enum-told-3 c = search needs
+
+enum-told-4 : tie.Need-enum-told-4
+enum-told-4 c = search needs
+
+enum-told-5 : tie.Need-enum-told-5
+enum-told-5 c = search needs
+
+returns : tie.Need-returns
+returns c = rw (c .before .enum-told .given .1) (c .config-refused .ensures)
+
+returns-2 : tie.Need-returns-2
+returns-2 c = search needs
+
+returns-3 : tie.Need-returns-3
+returns-3 c = search needs
+
+returns-4 : tie.Need-returns-4
+returns-4 c = search needs
+
+returns-5 : tie.Need-returns-5
+returns-5 c = search needs
+
+pub byte-refused-spec : {M : Type 1} → statement M
+byte-refused-spec =
+    tie.close
+    (tie.spec
+    enum-told
+    config-refused-requires
+    enum-told-2
+    enum-told-3
+    enum-told-4
+    enum-told-5
+    returns
+    returns-2
+    returns-3
+    returns-4
+    returns-5)

@@ -1,0 +1,196 @@
+// The call write.
+ghost use mathlib.Core.Path.{_≡_};
+ghost use mathlib.Core.Bool.{true};
+ghost use mathlib.Core.List.{map};
+ghost use Prim.Native.Nat.{_<_};
+ghost use Rattle.rules.specs.declared.BoxRegister.the-variants.{Control};
+ghost use Rattle.rules.specs.declared.ChannelRegister.the-variants.{Config};
+ghost use Rattle.rules.specs.Valid.{validStart, validOf};
+ghost use Rattle.rules.specs.Calls.{answer};
+ghost use Rattle.rules.specs.Write.{stopped, channelWritten, byteRefused, boxWritten, ownWritten, writeOf};
+use device::valid::valid;
+use registers::access::accessed;
+use registers::kept::config_refused;
+use registers::kept::control_kept;
+use registers::kept::dynamics_kept;
+use registers::kept::mask_kept;
+use registers::kept::options_kept;
+use registers::map::place_at;
+use rules::ACCEPTED;
+use rules::Answer;
+use rules::BoxRegister;
+use rules::CONFIG_NOT_ALLOWED;
+use rules::Channel;
+use rules::ChannelRegister;
+use rules::NOT_CARRIED;
+use rules::Place;
+use rules::READ_ONLY;
+use rules::STATE_NOT_VALID;
+use rules::State;
+use start::as_at_start;
+use words::count_word;
+use words::duty_word;
+use words::with_byte;
+use words::word_count;
+use words::word_duty;
+
+fn stopped(channel: Channel) -> Channel
+    ensures { λ r. ⌜ r ≡ stopped channel ⌝ }
+{
+    let mut next = channel;
+    next.ramp = 0;
+    next.spin = 0;
+    next
+}
+
+fn all_stopped(channels: [Channel; 6]) -> [Channel; 6]
+    ensures { λ r. ⌜ r ≡ map stopped channels ⌝ }
+{
+    let mut next = channels;
+    let mut i = 0;
+    while i < 6 {
+        next[i] = stopped(channels[i]);
+        i += 1;
+    }
+    next
+}
+
+fn configured(channel: Channel, byte: u8) -> Channel
+    ensures { λ r. ⌜ r ≡ channelWritten channel byte Config ⌝ }
+{
+    let mut next = channel;
+    next.config = byte;
+    if byte / 16 % 2 == 1 {
+        return stopped(next);
+    }
+    next
+}
+
+fn channel_written(channel: Channel, byte: u8, register: ChannelRegister) -> Channel
+    ensures { λ r. ⌜ r ≡ channelWritten channel byte register ⌝ }
+{
+    let mut next = channel;
+    match register {
+        ChannelRegister::Config => configured(channel, byte),
+        ChannelRegister::Dynamics => {
+            next.dynamics = dynamics_kept(byte);
+            next
+        }
+        ChannelRegister::Target(low) => {
+            next.target = word_duty(with_byte(duty_word(channel.target), low, byte));
+            next.queue = 0;
+            next.fault = false;
+            next
+        }
+        ChannelRegister::TargetCount(low) => {
+            next.target_count = word_count(with_byte(count_word(channel.target_count), low, byte));
+            next
+        }
+        ChannelRegister::Window => {
+            next.window = byte;
+            next
+        }
+    }
+}
+
+fn byte_refused(register: ChannelRegister, byte: u8) -> bool
+    ensures { λ r. ⌜ r ≡ byteRefused register byte ⌝ }
+{
+    match register {
+        ChannelRegister::Config => config_refused(byte),
+        ChannelRegister::Dynamics => false,
+        ChannelRegister::Target(_) => false,
+        ChannelRegister::TargetCount(_) => false,
+        ChannelRegister::Window => false,
+    }
+}
+
+fn control_written(state: State, byte: u8) -> State
+    requires { ⌜ validStart (state .start) ≡ true ⌝ }
+    ensures { λ r. ⌜ r ≡ boxWritten state byte Control ⌝ }
+{
+    if byte / 64 % 2 == 1 {
+        let start = state.start;
+        return as_at_start(start, state.timer.clock, state.pin);
+    }
+    let mut next = state;
+    let control = control_kept(byte);
+    next.registers.control = control;
+    if byte / 128 % 2 == 1 {
+        let channels = state.channels;
+        let still = all_stopped(channels);
+        next.channels = still;
+        return next;
+    }
+    next
+}
+
+fn box_written(state: State, byte: u8, register: BoxRegister) -> State
+    requires { ⌜ validStart (state .start) ≡ true ⌝ }
+    ensures { λ r. ⌜ r ≡ boxWritten state byte register ⌝ }
+{
+    let mut next = state;
+    match register {
+        BoxRegister::Control => control_written(state, byte),
+        BoxRegister::Frequency => {
+            next.registers.frequency = byte;
+            next
+        }
+        BoxRegister::Mask2 => {
+            let mask = mask_kept(byte);
+            next.registers.mask2 = mask;
+            next
+        }
+        BoxRegister::Mask1 => {
+            let mask = mask_kept(byte);
+            next.registers.mask1 = mask;
+            next
+        }
+        BoxRegister::Options => {
+            let options = options_kept(byte);
+            next.registers.options = options;
+            next
+        }
+    }
+}
+
+fn own_written(state: State, byte: u8, register: ChannelRegister, i: usize) -> State
+    requires { ⌜ i < 6 ⌝ }
+    ensures { λ r. ⌜ r ≡ ownWritten state byte register i ⌝ }
+{
+    let mut next = state;
+    next.channels[i] = channel_written(state.channels[i], byte, register);
+    next
+}
+
+fn answered(refusal: u8, state: State) -> Answer
+    ensures { λ r. ⌜ r ≡ answer refusal state ⌝ }
+{
+    Answer {
+        refusal: refusal,
+        state: state,
+    }
+}
+
+// A byte goes to an address.
+pub fn write(state: State, address: u32, byte: u8) -> Answer
+    ensures equal { λ r. ⌜ r ≡ writeOf state address byte ⌝ }
+    ensures kept { λ r. ⌜ (validOf state ≡ true → validOf (r .state) ≡ true) ⌝ }
+{
+    if !valid(state) {
+        return answered(STATE_NOT_VALID, state);
+    }
+    let fed = accessed(state);
+    let place = place_at(address);
+    match place {
+        Place::Absent => answered(NOT_CARRIED, state),
+        Place::ReadOnly(_) => answered(READ_ONLY, state),
+        Place::Shared(register) => answered(ACCEPTED, box_written(fed, byte, register)),
+        Place::Own(register, i) => {
+            if byte_refused(register, byte) {
+                return answered(CONFIG_NOT_ALLOWED, state);
+            }
+            answered(ACCEPTED, own_written(fed, byte, register, i))
+        }
+    }
+}
