@@ -9,7 +9,7 @@ use lib.Dec.{leb, ltb, eqb, lit<}
 use lib.ListN.{set}
 use borrow.Author.Tests.{eq-eqb, lt-ltb}
 use Rattle.rules.specs.Types.{Channel, Registers, StartValues, Timer, State, BoxRegister, Control, Frequency, Mask2, Mask1, Options, ChannelRegister, Config, Dynamics, Target, TargetCount, Window, Place, Absent, ReadOnly, Shared, Own, Answer, ReadAnswer}
-use Rattle.rules.specs.Basics.{if_then_else_, _⇒_, every, bit}
+use Rattle.rules.specs.Basics.{if_then_else_, _implies_, every, bit}
 use Rattle.rules.specs.State.{blank, channel, withSettings, withChannels, withRegisters, registers}
 use Rattle.rules.specs.Registers.{standby, watchdogCode, monitorOnly, controlKept, dynamicsKept, maskKept, optionsKept, configRefused, targetCount}
 use Rattle.rules.specs.Words.{withByte, dutyWord, countWord}
@@ -79,17 +79,17 @@ rebuilt-fed s r chs v w f = record { registers = v; start = f .start; channels =
 -- ---- a channel
 
 -- where a channel need not stand still, no more is asked of it
-looser-motion : (held less : Bool) (ch : Channel) → (less ⇒ held) ≡ true → validMotion held ch ≡ true → validMotion less ch ≡ true
+looser-motion : (held less : Bool) (ch : Channel) → (less implies held) ≡ true → validMotion held ch ≡ true → validMotion less ch ≡ true
 looser-motion held true ch weaker e = rw weaker at e
 looser-motion held false ch weaker e =
     let t = four (ltb (ch .ramp) 512) (leb (ch .spin) 1024) _ _ e in
     of-four _ _ _ _ (t .0) (t .1) refl (t .3)
 
-without-right : (a b : Bool) → ((a || false) ⇒ (a || b)) ≡ true
+without-right : (a b : Bool) → ((a || false) implies (a || b)) ≡ true
 without-right true b = refl
 without-right false b = refl
 
-without-left : (a b : Bool) → (b ⇒ (a || b)) ≡ true
+without-left : (a b : Bool) → (b implies (a || b)) ≡ true
 without-left a true = or-true a
 without-left a false = refl
 

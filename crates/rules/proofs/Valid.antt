@@ -6,7 +6,7 @@ use native.Mathlib.Omega.{arith}
 use lib.Dec.{leb, ltb, eqb}
 use borrow.Author.Tests.{ltb-true}
 use Rattle.rules.specs.Types.{Channel, Registers, StartValues, Timer, State}
-use Rattle.rules.specs.Basics.{_⇒_, every}
+use Rattle.rules.specs.Basics.{_implies_, every}
 use Rattle.rules.specs.State.{blank, channel}
 use Rattle.rules.specs.Registers.{standby, watchdogCode, monitorOnly, targetCount, controlKept, dynamicsKept, maskKept, optionsKept, configRefused}
 use Rattle.rules.specs.Time.{watchdogLimit}

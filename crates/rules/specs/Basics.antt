@@ -5,14 +5,14 @@ use mathlib.Core.List.{List, [], _∷_}
 use lib.Dec.{eqb}
 
 infixr 10 if_then_else_
-infixr 20 _⇒_
+infixr 20 _implies_
 abbrev pub if_then_else_ : {A : Type 0} → Bool → A → A → A
 if true then a else b = a
 if false then a else b = b
 
 -- where a holds, b holds
-abbrev pub _⇒_ : Bool → Bool → Bool
-a ⇒ b = not a || b
+abbrev pub _implies_ : Bool → Bool → Bool
+a implies b = not a || b
 
 -- the test holds of every element; of some element
 abbrev pub every : {A : Type 0} → (A → Bool) → List A → Bool

@@ -4,22 +4,27 @@ use mathlib.Core.Bool.{false}
 use Rattle.rules.specs.Types.{State, Answer, ReadAnswer}
 use Rattle.rules.specs.State.{withTimer}
 
--- "Refusal numbers", "Tested in the order of their numbers"; 0 is accepted
+-- "Refusal numbers", "Tested in the order of their numbers; given then and never otherwise". 0 is accepted
 abbrev pub accepted : ℕ
 accepted = 0
 
+-- "state not sound"
 abbrev pub stateNotValid : ℕ
 stateNotValid = 1
 
+-- "address not carried"
 abbrev pub notCarried : ℕ
 notCarried = 2
 
+-- "write to a read-only register"
 abbrev pub readOnly : ℕ
 readOnly = 3
 
+-- "fan configuration byte with bit 7, 2 or 0 set"
 abbrev pub configNotAllowed : ℕ
 configNotAllowed = 4
 
+-- "start: a pin-set value out of range"
 abbrev pub startOutOfRange : ℕ
 startOutOfRange = 7
 

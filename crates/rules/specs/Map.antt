@@ -6,6 +6,7 @@ use lib.Dec.{leb, ltb, eqb}
 use Rattle.rules.specs.Types.{StatusRegister, Faults2, Faults1, Count, OtherCount, Output, BoxRegister, Control, Frequency, Mask2, Mask1, Options, ChannelRegister, Config, Dynamics, Target, TargetCount, Window, Place, Absent, ReadOnly, Shared, Own}
 use Rattle.rules.specs.Basics.{if_then_else_, some}
 
+infix 70 _to_
 -- "the high byte first": the odd bytes of a row of words are the low ones
 abbrev pub isLow : ℕ → Bool
 isLow n = eqb (n % 2) 1
@@ -65,24 +66,24 @@ indexOf (Own r i) = i
 
 -- ---- the paper's two lists, for the theorem that the map carries just these
 
--- an address from the first to the last of a row
+-- the addresses from a first to a last one
 pub record Row : Type 0 where
   pub first : ℕ
   pub last : ℕ
 
-abbrev pub to : ℕ → ℕ → Row
-to first last = record { first = first; last = last }
+abbrev pub _to_ : ℕ → ℕ → Row
+first to last = record { first = first; last = last }
 
 abbrev pub among : List Row → ℕ → Bool
 among rows a = some (λ row. leb (row .first) a && leb a (row .last)) rows
 
--- "00h to 0Dh, 10h to 14h, 18h to 3Bh, 40h to 4Bh, 50h to 5Bh, 60h to 65h"
+-- "There are 85: 00h to 0Dh, 10h to 14h, 18h to 3Bh, 40h to 4Bh, 50h to 5Bh, 60h to 65h"
 abbrev pub carriedRows : List Row
-carriedRows = to 0x00 0x0D ∷ to 0x10 0x14 ∷ to 0x18 0x3B ∷ to 0x40 0x4B ∷ to 0x50 0x5B ∷ to 0x60 0x65 ∷ []
+carriedRows = 0x00 to 0x0D ∷ 0x10 to 0x14 ∷ 0x18 to 0x3B ∷ 0x40 to 0x4B ∷ 0x50 to 0x5B ∷ 0x60 to 0x65 ∷ []
 
 -- "Read-only: 10h, 11h, 18h to 3Bh"
 abbrev pub readOnlyRows : List Row
-readOnlyRows = to 0x10 0x10 ∷ to 0x11 0x11 ∷ to 0x18 0x3B ∷ []
+readOnlyRows = 0x10 to 0x11 ∷ 0x18 to 0x3B ∷ []
 
 -- whether a register stands there, and whether it can only be read
 abbrev pub isCarried : Place → Bool

@@ -5,6 +5,7 @@ use lib.ListN.{replicate}
 use Rattle.rules.specs.Types.{Channel, StartValues, State, Answer}
 use Rattle.rules.specs.Basics.{if_then_else_}
 use Rattle.rules.specs.State.{blank, registers}
+use Rattle.rules.specs.Words.{wordCount}
 use Rattle.rules.specs.Valid.{validStart}
 use Rattle.rules.specs.Calls.{accepted, startOutOfRange, answer}
 
@@ -17,8 +18,8 @@ startChannel v =
       dynamics = 0x4C;
       window = 0;
       target = v .target;
-      «target_count» = 480;
-      count = 2047;
+      «target_count» = wordCount 0x3C00;
+      count = wordCount 0xFFE0;
       queue = 0;
       fault = false;
       ramp = 0;

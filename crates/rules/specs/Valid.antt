@@ -3,7 +3,7 @@ use Prim.Native.Nat.{ℕ}
 use mathlib.Core.Bool.{Bool, not, _&&_, _||_}
 use lib.Dec.{leb, ltb, eqb}
 use Rattle.rules.specs.Types.{Channel, Registers, StartValues, Timer, State}
-use Rattle.rules.specs.Basics.{if_then_else_, _⇒_, every}
+use Rattle.rules.specs.Basics.{if_then_else_, _implies_, every}
 use Rattle.rules.specs.Registers.{standby, watchdogCode, monitorOnly, targetCount, controlKept, dynamicsKept, maskKept, optionsKept, configRefused}
 use Rattle.rules.specs.Time.{watchdogLimit}
 
@@ -23,8 +23,8 @@ abbrev pub validMotion : Bool → Channel → Bool
 validMotion atRest ch =
     ltb (ch .ramp) 512
     && leb (ch .spin) 1024
-    && (atRest ⇒ (eqb (ch .ramp) 0 && eqb (ch .spin) 0))
-    && (ltb 0 (ch .spin) ⇒ eqb (ch .ramp) 511)
+    && (atRest implies (eqb (ch .ramp) 0 && eqb (ch .spin) 0))
+    && (ltb 0 (ch .spin) implies eqb (ch .ramp) 511)
 
 unfoldable pub validChannel : Bool → Channel → Bool
 validChannel inStandby ch = validSettings ch && validResults ch && validMotion (inStandby || monitorOnly ch) ch
