@@ -1,17 +1,16 @@
 -- An output duty is 0 to 511 in every valid state, so that its register word shows it.
 use Prim.Native.Nat.{ℕ, _<_}
 use mathlib.Core.Path.{_≡_}
-use mathlib.Core.Bool.{Bool, true, false, not, _&&_, _||_}
+use mathlib.Core.Bool.{true, not, _&&_}
 use lib.Dec.{ltb, leb, eqb, lit<}
 use borrow.Author.Tests.{ltb-true}
 use Rattle.rules.specs.Types.{Channel, State, Conditions, Override, None, Duty}
-use Rattle.rules.specs.Basics.{if_then_else_}
 use Rattle.rules.specs.State.{blank, channel}
 use Rattle.rules.specs.Registers.{standby, monitorOnly}
-use Rattle.rules.specs.Duty.{conditionsOf, failedFan, overrideOf, dutyUnder, outputDuty}
+use Rattle.rules.specs.Duty.{conditionsOf, overrideOf, dutyUnder, outputDuty}
 use Rattle.rules.specs.Valid.{validChannel, validOf}
 use Rattle.rules.proofs.Tests.{choice, every-at}
-use Rattle.rules.proofs.Valid.{Parts, parts, channel-parts, four}
+use Rattle.rules.proofs.Valid.{parts, channel-parts, four}
 use Rattle.rules.proofs.Kept.{blank-valid}
 
 -- a duty that an override forces

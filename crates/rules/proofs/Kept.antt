@@ -1,52 +1,40 @@
 -- Start gives a valid state, and read and write keep a valid state valid.
-use Prim.Native.Nat.{ℕ, _+_, _*_, _/_, _%_, _<_}
-use mathlib.Core.Path.{_≡_, refl, sym, _∙_, ap, subst}
-use mathlib.Core.Bool.{Bool, true, false, not, _&&_, _||_, Bool·beq, or-true}
+use Prim.Native.Nat.{ℕ, _+_, _*_, _/_, _<_}
+use mathlib.Core.Path.{_≡_, refl, _∙_, ap}
+use mathlib.Core.Bool.{Bool, true, false, not, _||_, Bool·beq, or-true}
 use mathlib.Core.List.{List, map, map-id}
 use native.Mathlib.Omega.{arith}
 use native.Mathlib.Nat.{mod-lt}
 use lib.Dec.{leb, ltb, eqb, lit<}
-use lib.ListN.{set}
-use borrow.Author.Tests.{eq-eqb, lt-ltb}
-use Rattle.rules.specs.Types.{Channel, Registers, StartValues, Timer, State, BoxRegister, Control, Frequency, Mask2, Mask1, Options, ChannelRegister, Config, Dynamics, Target, TargetCount, Window, Place, Absent, ReadOnly, Shared, Own, Answer, ReadAnswer}
-use Rattle.rules.specs.Basics.{if_then_else_, _implies_, every, bit}
+use borrow.Author.Tests.{lt-ltb}
+use Rattle.rules.specs.Types.{Channel, Registers, StartValues, Timer, State, BoxRegister, Control, Frequency, Mask2, Mask1, Options, ChannelRegister, Config, Dynamics, Target, TargetCount, Window, Place, Absent, ReadOnly, Shared, Own, Answer}
+use Rattle.rules.specs.Basics.{_implies_, every, bit}
 use Rattle.rules.specs.State.{blank, channel, withSettings, withChannels, withRegisters, registers}
 use Rattle.rules.specs.Registers.{standby, watchdogCode, monitorOnly, controlKept, dynamicsKept, maskKept, optionsKept, configRefused, targetCount}
 use Rattle.rules.specs.Words.{withByte, dutyWord, countWord}
 use Rattle.rules.specs.Time.{watchdogLimit}
 use Rattle.rules.specs.Map.{placeAt}
-use Rattle.rules.specs.Valid.{validSettings, validResults, validMotion, validChannel, validRegisters, validStart, validTimer, validOf}
+use Rattle.rules.specs.Valid.{validMotion, validChannel, validRegisters, validStart, validTimer, validOf}
 use Rattle.rules.specs.Start.{startChannel, asAtStart, zeroState, startOf}
-use Rattle.rules.specs.Write.{stopped, cleared, channelWritten, byteRefused, reset, boxWritten, ownWritten, writeAt, writeOf}
+use Rattle.rules.specs.Write.{stopped, channelWritten, byteRefused, reset, boxWritten, ownWritten, writeAt, writeOf}
 use Rattle.rules.specs.Read.{statusCleared, afterRead, readAt, readOf}
-use Rattle.rules.specs.Calls.{stateNotValid, answer, readAnswer, accessed}
-use Rattle.rules.proofs.Tests.{same, choice, and-left, and-right, and-both, allBelow, all-below, every-at, every-set, every-map, every-replicate}
-use Rattle.rules.proofs.Valid.{Parts, parts, valid-of-parts, ChannelParts, channel-parts, valid-of-channel-parts, SettingsParts, settings-parts, valid-of-settings-parts, RegistersParts, registers-parts, valid-of-registers-parts, StartParts, start-parts, four, of-four}
+use Rattle.rules.specs.Calls.{accessed}
+use Rattle.rules.proofs.Tests.{same, choice, and-left, and-both, allBelow, all-below, every-at, every-set, every-map, every-replicate}
+use Rattle.rules.proofs.Valid.{parts, valid-of-parts, ChannelParts, channel-parts, valid-of-channel-parts, settings-parts, registers-parts, valid-of-registers-parts, StartParts, start-parts, four, of-four}
 
--- ---- what a register keeps of a byte it keeps again, and 00h keeps its standby bit
+-- ---- what a register keeps of a byte it keeps again: by a test of every byte
 
-record KeptAgain (b : ℕ) : Type 0 where
-  control : eqb (controlKept (controlKept b)) (controlKept b) ≡ true
-  standby-bit : Bool·beq (bit 7 (controlKept b)) (bit 7 b) ≡ true
-  dynamics : eqb (dynamicsKept (dynamicsKept b)) (dynamicsKept b) ≡ true
-  mask : eqb (maskKept (maskKept b)) (maskKept b) ≡ true
-  options : eqb (optionsKept (optionsKept b)) (optionsKept b) ≡ true
-
-kept-again : (b : ℕ) → b < 256 → KeptAgain b
-kept-again b h =
-    record {
-      control = all-below 256 (λ k. eqb (controlKept (controlKept k)) (controlKept k)) refl b h;
-      standby-bit = all-below 256 (λ k. Bool·beq (bit 7 (controlKept k)) (bit 7 k)) refl b h;
-      dynamics = all-below 256 (λ k. eqb (dynamicsKept (dynamicsKept k)) (dynamicsKept k)) refl b h;
-      mask = all-below 256 (λ k. eqb (maskKept (maskKept k)) (maskKept k)) refl b h;
-      options = all-below 256 (λ k. eqb (optionsKept (optionsKept k)) (optionsKept k)) refl b h;
-    }
+kept-again : (kept : ℕ → ℕ) → allBelow 256 (λ k. eqb (kept (kept k)) (kept k)) ≡ true →
+    (b : ℕ) → b < 256 → eqb (kept (kept b)) (kept b) ≡ true
+kept-again kept test = all-below 256 (λ k. eqb (kept (kept k)) (kept k)) test
 
 -- ---- the timer after an accepted access
 
 fresh-timer : (code : ℕ) (t : Timer) → t .idle ≡ 0 → t .expired ≡ false → code < 4 → validTimer code t ≡ true
 unfolding validTimer watchdogLimit
-fresh-timer code t i e h = rw (i, e) (all-below 4 (λ k. validTimer k (record { clock = 0; idle = 0; expired = false; status = false })) refl code h)
+fresh-timer code t i e h =
+    let fresh : Timer = record { clock = 0; idle = 0; expired = false; status = false } in
+    rw (i, e) (all-below 4 (λ k. validTimer k fresh) refl code h)
 
 -- a state whose watchdog has just been fed, valid but for its timer: so it is valid
 record Fed (s : State) : Type 0 where
@@ -114,21 +102,23 @@ channel-written inStandby ch b h Config e p =
 channel-written inStandby ch b h Dynamics e p =
     let q = settings-parts ch (p .settings) in
     record {
-      settings = of-four _ _ _ _ (q .config) (kept-again b h .dynamics) (q .target) (q .target-count);
+      settings = of-four _ _ _ _ (q .config) (kept-again dynamicsKept refl b h) (q .target) (q .target-count);
       results = p .results;
       motion = p .motion;
     }
 channel-written inStandby ch b h (Target low) e p =
     let q = settings-parts ch (p .settings) in
+    let small = mod-lt (withByte low (dutyWord (ch .target)) b / 128) {m = 512} (lit< tt) in
     record {
-      settings = of-four _ _ _ _ (q .config) (q .dynamics) (lt-ltb _ 512 (mod-lt (withByte low (dutyWord (ch .target)) b / 128) (lit< tt))) (q .target-count);
+      settings = of-four _ _ _ _ (q .config) (q .dynamics) (lt-ltb _ 512 small) (q .target-count);
       results = and-both (ltb (ch .count) 2048) _ (and-left (ltb (ch .count) 2048) _ (p .results)) refl;
       motion = p .motion;
     }
 channel-written inStandby ch b h (TargetCount low) e p =
     let q = settings-parts ch (p .settings) in
+    let small = mod-lt (withByte low (countWord (targetCount ch)) b / 32) {m = 2048} (lit< tt) in
     record {
-      settings = of-four _ _ _ _ (q .config) (q .dynamics) (q .target) (lt-ltb _ 2048 (mod-lt (withByte low (countWord (ch .«target_count»)) b / 32) (lit< tt)));
+      settings = of-four _ _ _ _ (q .config) (q .dynamics) (q .target) (lt-ltb _ 2048 small);
       results = p .results;
       motion = p .motion;
     }
@@ -138,9 +128,10 @@ channel-written inStandby ch b h Window e p = record { settings = p .settings; r
 
 start-channel-valid : (inStandby : Bool) (v : StartValues) → StartParts v → validChannel inStandby (startChannel v) ≡ true
 start-channel-valid inStandby v p =
+    let config = all-below 4 (λ code. not (configRefused (code * 0x20))) refl (v .spinup) (p .spinup) in
     valid-of-channel-parts inStandby (startChannel v)
     (record {
-      settings = of-four _ _ _ _ (all-below 4 (λ code. not (configRefused (code * 0x20))) refl (v .spinup) (p .spinup)) refl (lt-ltb _ 512 (p .target)) refl;
+      settings = of-four _ _ _ _ config refl (lt-ltb _ 512 (p .target)) refl;
       results = refl;
       motion = stopped-motion (inStandby || monitorOnly (startChannel v)) (startChannel v);
     })
@@ -148,8 +139,9 @@ start-channel-valid inStandby v p =
 as-at-start : (v : StartValues) (clock : ℕ) (pin : Bool) → validStart v ≡ true → Fed (asAtStart v clock pin)
 as-at-start v clock pin e =
     let p = start-parts v e in
+    let control = all-below 4 (λ code. eqb (controlKept (0x20 + code * 2)) (0x20 + code * 2)) refl (v .watchdog) (p .watchdog) in
     record {
-      registers = valid-of-registers-parts _ (record { control = all-below 4 (λ code. eqb (controlKept (0x20 + code * 2)) (0x20 + code * 2)) refl (v .watchdog) (p .watchdog); mask2 = refl; mask1 = refl; options = refl });
+      registers = valid-of-registers-parts _ (record { control = control; mask2 = refl; mask1 = refl; options = refl });
       start = e;
       channels = every-replicate (validChannel (bit 7 (0x20 + v .watchdog * 2))) 6 (startChannel v) (start-channel-valid _ v p);
       idle = refl;
@@ -175,8 +167,9 @@ others-written : (s : State) (frequency mask2 mask1 options : ℕ) → eqb (mask
     eqb (maskKept mask1) mask1 ≡ true → eqb (optionsKept options) options ≡ true → Fed s →
     Fed (withRegisters s (registers (s .registers .control) frequency mask2 mask1 options))
 others-written s frequency mask2 mask1 options e2 e1 e f =
+    let q = registers-parts (s .registers) (f .registers) in
     rebuilt-fed s _ (s .channels)
-    (valid-of-registers-parts _ (record { control = registers-parts (s .registers) (f .registers) .control; mask2 = e2; mask1 = e1; options = e }))
+    (valid-of-registers-parts _ (record { control = q .control; mask2 = e2; mask1 = e1; options = e }))
     (f .channels) f
 
 -- 00h written: in standby every channel stands still, and out of it none need
@@ -194,7 +187,11 @@ free-channels inStandby chs e =
     (every-map (validChannel inStandby) (validChannel false) (λ ch. ch)
     (λ ch v. let p = channel-parts inStandby ch v in
     valid-of-channel-parts false ch
-    (record { settings = p .settings; results = p .results; motion = looser-motion _ (monitorOnly ch) ch (without-left inStandby (monitorOnly ch)) (p .motion) }))
+    (record {
+      settings = p .settings;
+      results = p .results;
+      motion = looser-motion _ (monitorOnly ch) ch (without-left inStandby (monitorOnly ch)) (p .motion);
+    }))
     chs e)
 
 box-written : (s : State) (b : ℕ) → b < 256 → (r : BoxRegister) → Fed s → Fed (boxWritten s b r)
@@ -211,22 +208,23 @@ box-written s b h Control f =
     kept : validRegisters next ≡ true
     kept =
         let q = registers-parts (s .registers) (f .registers) in
-        valid-of-registers-parts next (record { control = kept-again b h .control; mask2 = q .mask2; mask1 = q .mask1; options = q .options })
+        let control = kept-again controlKept refl b h in
+        valid-of-registers-parts next (record { control = control; mask2 = q .mask2; mask1 = q .mask1; options = q .options })
 
     standby-kept : bit 7 (controlKept b) ≡ bit 7 b
-    standby-kept = same _ _ (kept-again b h .standby-bit)
+    standby-kept = same _ _ (all-below 256 (λ k. Bool·beq (bit 7 (controlKept k)) (bit 7 k)) refl b h)
 box-written s b h Frequency f =
     let q = registers-parts (s .registers) (f .registers) in
     others-written s b _ _ _ (q .mask2) (q .mask1) (q .options) f
 box-written s b h Mask2 f =
     let q = registers-parts (s .registers) (f .registers) in
-    others-written s _ _ _ _ (kept-again b h .mask) (q .mask1) (q .options) f
+    others-written s _ _ _ _ (kept-again maskKept refl b h) (q .mask1) (q .options) f
 box-written s b h Mask1 f =
     let q = registers-parts (s .registers) (f .registers) in
-    others-written s _ _ _ _ (q .mask2) (kept-again b h .mask) (q .options) f
+    others-written s _ _ _ _ (q .mask2) (kept-again maskKept refl b h) (q .options) f
 box-written s b h Options f =
     let q = registers-parts (s .registers) (f .registers) in
-    others-written s _ _ _ _ (q .mask2) (q .mask1) (kept-again b h .options) f
+    others-written s _ _ _ _ (q .mask2) (q .mask1) (kept-again optionsKept refl b h) f
 
 -- ---- a channel's register
 
@@ -238,7 +236,8 @@ blank-valid false = refl
 own-written : (s : State) (b i : ℕ) → b < 256 → (r : ChannelRegister) → byteRefused r b ≡ false → Fed s → Fed (ownWritten s b r i)
 own-written s b i h r e f =
     let inStandby = standby (s .registers) in
-    let before = channel-parts inStandby (channel s i) (every-at (validChannel inStandby) (s .channels) i blank (blank-valid inStandby) (f .channels)) in
+    let here = every-at (validChannel inStandby) (s .channels) i blank (blank-valid inStandby) (f .channels) in
+    let before = channel-parts inStandby (channel s i) here in
     let after = valid-of-channel-parts inStandby _ (channel-written inStandby (channel s i) b h r e before) in
     rebuilt-fed s (s .registers) _ (f .registers) (every-set (validChannel inStandby) (s .channels) i _ after (f .channels)) f
 
@@ -277,41 +276,3 @@ module _ (s : State) (a : ℕ) (valid : validOf s ≡ true) where
       at (ReadOnly r) = after
       at (Shared r) = after
       at (Own r i) = after
-
--- ---- the promises of the calls, from one equation: what a call gives, and that it keeps a valid state valid
-
-abbrev pub StartPromise : ℕ → ℕ → ℕ → ℕ → Answer → Type 0
-StartPromise watchdog spinup target frequency r =
-    (r ≡ startOf watchdog spinup target frequency) × (validOf (r .state) ≡ true)
-
-pub started : (watchdog spinup target frequency : ℕ) (r : Answer) → r ≡ startOf watchdog spinup target frequency →
-    StartPromise watchdog spinup target frequency r
-started watchdog spinup target frequency r e = (e, rw e (start-valid watchdog spinup target frequency))
-
-module _ (s : State) (a : ℕ) where
-  abbrev pub ReadPromise : ReadAnswer → Type 0
-  ReadPromise r = (r ≡ readOf s a) × (validOf s ≡ true → validOf (r .state) ≡ true)
-
-  pub read-refused : (r : ReadAnswer) → validOf s ≡ false → r ≡ readAnswer stateNotValid 0 s → ReadPromise r
-  unfolding readOf
-  read-refused r no-good e = (rw no-good e, λ v. rw e v)
-
-  pub read-answered : (r : ReadAnswer) (p : Place) → validOf s ≡ true → placeAt a ≡ p → r ≡ readAt s a p → ReadPromise r
-  unfolding readOf
-  read-answered r p v here e =
-      let told : r ≡ readOf s a = rw (v, here) e in
-      (told, λ w. rw told (read-valid s a v))
-
-  abbrev pub WritePromise : ℕ → Answer → Type 0
-  WritePromise b r = (r ≡ writeOf s a b) × (validOf s ≡ true → validOf (r .state) ≡ true)
-
-  pub write-refused : (b : ℕ) (r : Answer) → validOf s ≡ false → r ≡ answer stateNotValid s → WritePromise b r
-  unfolding writeOf
-  write-refused b r no-good e = (rw no-good e, λ v. rw e v)
-
-  pub write-answered : (b : ℕ) (r : Answer) (p : Place) → b < 256 → validOf s ≡ true → placeAt a ≡ p → r ≡ writeAt s b p →
-      WritePromise b r
-  unfolding writeOf
-  write-answered b r p h v here e =
-      let told : r ≡ writeOf s a b = rw (v, here) e in
-      (told, λ w. rw told (write-valid s a v b h))

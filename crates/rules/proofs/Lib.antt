@@ -6,4 +6,5 @@ pub mod Each
 pub mod Faults
 pub mod Valid
 pub mod Kept
+pub mod Promises
 pub mod Duty

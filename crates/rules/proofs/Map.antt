@@ -1,5 +1,5 @@
 -- The map carries just the paper's 85 registers, just its read-only ones are read-only, and a channel's index is below 6.
-use Prim.Native.Nat.{ℕ, zero, suc, _+_, _-_, _/_, _<_, _≤_}
+use Prim.Native.Nat.{ℕ, zero, suc, _+_, _<_, _≤_}
 use mathlib.Core.Path.{_≡_, refl, sym, _∙_, ap, subst}
 use mathlib.Core.Bool.{Bool, true, false, _&&_, Bool·beq, and-false}
 use mathlib.Core.List.{List, [], _∷_}
@@ -7,7 +7,7 @@ use native.Mathlib.Omega.{arith}
 use native.Mathlib.Decide.{decLt}
 use lib.Dec.{ltb}
 use borrow.Author.Tests.{ltb-true, ltb-false, lt-leb}
-use Rattle.rules.specs.Types.{StatusRegister, ChannelRegister, Place, Absent, ReadOnly, Shared, Own}
+use Rattle.rules.specs.Types.{StatusRegister, ChannelRegister, Place, Absent, ReadOnly, Own}
 use Rattle.rules.specs.Basics.{if_then_else_, flag, every}
 use Rattle.rules.specs.Map.{settingAt, statusAt, targetAt, placeAt, Row, among, carriedRows, readOnlyRows, isCarried, isReadOnly, statusIndex, indexOf}
 use Rattle.rules.proofs.Tests.{choice, and-left, and-right, same, allBelow, all-below}

@@ -1,17 +1,14 @@
 -- A valid state by its parts, and the parts that the calls change.
-use Prim.Native.Nat.{ℕ, _+_, _*_, _/_, _%_, _<_}
-use mathlib.Core.Path.{_≡_, refl, sym, _∙_, ap}
-use mathlib.Core.Bool.{Bool, true, false, not, _&&_, _||_}
-use native.Mathlib.Omega.{arith}
-use lib.Dec.{leb, ltb, eqb}
+use Prim.Native.Nat.{_<_}
+use mathlib.Core.Path.{_≡_}
+use mathlib.Core.Bool.{Bool, true, not, _&&_, _||_}
+use lib.Dec.{ltb, eqb}
 use borrow.Author.Tests.{ltb-true}
-use Rattle.rules.specs.Types.{Channel, Registers, StartValues, Timer, State}
-use Rattle.rules.specs.Basics.{_implies_, every}
-use Rattle.rules.specs.State.{blank, channel}
+use Rattle.rules.specs.Types.{Channel, Registers, StartValues, State}
+use Rattle.rules.specs.Basics.{every}
 use Rattle.rules.specs.Registers.{standby, watchdogCode, monitorOnly, targetCount, controlKept, dynamicsKept, maskKept, optionsKept, configRefused}
-use Rattle.rules.specs.Time.{watchdogLimit}
 use Rattle.rules.specs.Valid.{validSettings, validResults, validMotion, validChannel, validRegisters, validStart, validTimer, validOf}
-use Rattle.rules.proofs.Tests.{and-left, and-right, and-both, allBelow, all-below, every-at}
+use Rattle.rules.proofs.Tests.{and-left, and-right, and-both}
 
 pub record Parts (s : State) : Type 0 where
   pub registers : validRegisters (s .registers) ≡ true

@@ -1,13 +1,13 @@
 -- A duty or a count and the register word that shows it convert both ways without loss.
 use Prim.Native.Nat.{ℕ, _+_, _-_, _*_, _/_, _%_, _^_, _<_, _≤_}
-use mathlib.Core.Path.{_≡_, refl, sym, _∙_, ap}
+use mathlib.Core.Path.{_≡_, sym, _∙_, ap}
 use mathlib.Core.Bool.{Bool, true, false, not}
 use native.Mathlib.Nat.{mod-eq-of-lt, mod-mod, mod-lt, mul-mod-left, add-zero}
 use native.Mathlib.Omega.{arith}
 use lib.Dec.{eqb}
 use lib.Pow.{pow-pos, shl-shr, shl-lt, recompose}
-use borrow.Author.Tests.{eq-eqb, eqb-true, eqb-false}
-use Rattle.rules.specs.Basics.{if_then_else_, flag}
+use borrow.Author.Tests.{eq-eqb, eqb-true}
+use Rattle.rules.specs.Basics.{flag}
 use Rattle.rules.specs.Words.{leftJustified, shownIn, shows, dutyWord, wordDuty, countWord, wordCount, outputWord, showsOutput, wordByte, withByte, Lossless}
 use Rattle.rules.proofs.Tests.{flag-le}
 

@@ -37,4 +37,6 @@ readAnswer refusal byte s = record { refusal = refusal; byte = byte; state = s }
 
 -- "Each accepted read or write sets the idle count to 0 and ends an expiry"
 abbrev pub accessed : State → State
-accessed s = withTimer s (record { clock = s .timer .clock; idle = 0; expired = false; status = s .timer .status })
+accessed s =
+    let t = s .timer in
+    withTimer s (record { clock = t .clock; idle = 0; expired = false; status = t .status })

@@ -1,6 +1,6 @@
 -- "Which duty comes out": for each channel the first line that applies.
 use Prim.Native.Nat.{ℕ, _+_, _*_}
-use mathlib.Core.Bool.{Bool, true, false, not, _&&_}
+use mathlib.Core.Bool.{Bool, not, _&&_}
 use mathlib.Core.List.{List, [], _∷_}
 use lib.Dec.{ltb, eqb}
 use Rattle.rules.specs.Types.{Channel, State, Conditions, Override, None, Duty}

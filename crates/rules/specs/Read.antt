@@ -1,6 +1,6 @@
 -- The call read.
 use Prim.Native.Nat.{ℕ, _+_}
-use mathlib.Core.Bool.{Bool, true, false}
+use mathlib.Core.Bool.{Bool, false}
 use lib.Dec.{eqb}
 use Rattle.rules.specs.Types.{Channel, State, StatusRegister, Faults2, Faults1, Count, OtherCount, Output, BoxRegister, Control, Frequency, Mask2, Mask1, Options, ChannelRegister, Config, Dynamics, Target, TargetCount, Window, Place, Absent, ReadOnly, Shared, Own, ReadAnswer}
 use Rattle.rules.specs.Basics.{if_then_else_, keep, flag}
@@ -42,7 +42,9 @@ statusByte s (Output i low) = wordByte low (outputWord (outputDuty (conditionsOf
 
 -- "A read of 00h then clears the status bit"
 abbrev pub statusCleared : State → State
-statusCleared s = withTimer s (record { clock = s .timer .clock; idle = s .timer .idle; expired = s .timer .expired; status = false })
+statusCleared s =
+    let t = s .timer in
+    withTimer s (record { clock = t .clock; idle = t .idle; expired = t .expired; status = false })
 
 abbrev pub afterRead : State → ℕ → State
 afterRead s a = accessed (if eqb a 0x00 then statusCleared s else s)

@@ -7,7 +7,19 @@ use Rattle.rules.specs.Types.{Channel, Registers, Timer, State}
 
 -- a channel with every number 0 and every flag clear
 abbrev pub blank : Channel
-blank = record { config = 0; dynamics = 0; window = 0; target = 0; «target_count» = 0; count = 0; queue = 0; fault = false; ramp = 0; spin = 0 }
+blank =
+    record {
+      config = 0;
+      dynamics = 0;
+      window = 0;
+      target = 0;
+      «target_count» = 0;
+      count = 0;
+      queue = 0;
+      fault = false;
+      ramp = 0;
+      spin = 0;
+    }
 
 -- the channel with index i, which is channel i + 1 of the paper
 abbrev pub channel : State → ℕ → Channel
@@ -15,13 +27,13 @@ channel s i = getD (s .channels) i blank
 
 -- a channel with other settings; with other results; with another ramp value and spin-up time
 abbrev pub withSettings : Channel → ℕ → ℕ → ℕ → ℕ → ℕ → Channel
-withSettings ch config dynamics window target targets =
+withSettings ch config dynamics window target target-count =
     record {
       config = config;
       dynamics = dynamics;
       window = window;
       target = target;
-      «target_count» = targets;
+      «target_count» = target-count;
       count = ch .count;
       queue = ch .queue;
       fault = ch .fault;

@@ -1,6 +1,6 @@
 -- "Time": the codes of the registers in ticks.
 use Prim.Native.Nat.{ℕ}
-use mathlib.Core.List.{List, [], _∷_}
+use mathlib.Core.List.{[], _∷_}
 use lib.ListN.{getD}
 
 -- "Watchdog codes 0 to 3: off, 2,560, 5,120, 15,360 ticks"

@@ -1,7 +1,7 @@
 -- "Two-byte values have the high byte first": duties and counts, left-justified in a word of 16 bits.
 use Prim.Native.Nat.{ℕ, _+_, _-_, _*_, _/_, _%_, _^_, _<_}
 use mathlib.Core.Path.{_≡_}
-use mathlib.Core.Bool.{Bool, true, false}
+use mathlib.Core.Bool.{Bool, true}
 use lib.Dec.{eqb}
 use Rattle.rules.specs.Basics.{if_then_else_, flag}
 

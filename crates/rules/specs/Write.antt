@@ -1,9 +1,9 @@
 -- The call write.
 use Prim.Native.Nat.{ℕ}
-use mathlib.Core.Bool.{Bool, true, false}
+use mathlib.Core.Bool.{Bool, false}
 use mathlib.Core.List.{map}
 use lib.ListN.{set}
-use Rattle.rules.specs.Types.{Channel, State, BoxRegister, Control, Frequency, Mask2, Mask1, Options, ChannelRegister, Config, Dynamics, Target, TargetCount, Window, Place, Absent, ReadOnly, Shared, Own, Answer}
+use Rattle.rules.specs.Types.{Channel, Registers, State, BoxRegister, Control, Frequency, Mask2, Mask1, Options, ChannelRegister, Config, Dynamics, Target, TargetCount, Window, Place, Absent, ReadOnly, Shared, Own, Answer}
 use Rattle.rules.specs.Basics.{if_then_else_, bit}
 use Rattle.rules.specs.State.{channel, registers, withSettings, withResults, withMotion, withChannels, withRegisters}
 use Rattle.rules.specs.Registers.{targetCount, controlKept, dynamicsKept, maskKept, optionsKept, configRefused}
@@ -30,9 +30,11 @@ channelWritten ch b Config =
     if bit 4 b then stopped next else next
 channelWritten ch b Dynamics = withSettings ch (ch .config) (dynamicsKept b) (ch .window) (ch .target) (targetCount ch)
 channelWritten ch b (Target low) =
-    cleared (withSettings ch (ch .config) (ch .dynamics) (ch .window) (wordDuty (withByte low (dutyWord (ch .target)) b)) (targetCount ch))
+    let target = wordDuty (withByte low (dutyWord (ch .target)) b) in
+    cleared (withSettings ch (ch .config) (ch .dynamics) (ch .window) target (targetCount ch))
 channelWritten ch b (TargetCount low) =
-    withSettings ch (ch .config) (ch .dynamics) (ch .window) (ch .target) (wordCount (withByte low (countWord (targetCount ch)) b))
+    let target-count = wordCount (withByte low (countWord (targetCount ch)) b) in
+    withSettings ch (ch .config) (ch .dynamics) (ch .window) (ch .target) target-count
 channelWritten ch b Window = withSettings ch (ch .config) (ch .dynamics) b (ch .target) (targetCount ch)
 
 -- refusal 4 speaks of a fan configuration alone
@@ -49,19 +51,25 @@ byteRefused Window b = false
 abbrev pub reset : State → State
 reset s = asAtStart (s .start) (s .timer .clock) (s .pin)
 
--- "To 00h with bit 7 and not 6: all ramp values and spin-up times become 0." Else the byte goes into its register, less
--- the bits that it does not keep
+-- the byte goes into its register, less the bits that it does not keep
+abbrev pub stored : Registers → ℕ → BoxRegister → Registers
+stored r b Control = registers (controlKept b) (r .frequency) (r .mask2) (r .mask1) (r .options)
+stored r b Frequency = registers (r .control) b (r .mask2) (r .mask1) (r .options)
+stored r b Mask2 = registers (r .control) (r .frequency) (maskKept b) (r .mask1) (r .options)
+stored r b Mask1 = registers (r .control) (r .frequency) (r .mask2) (maskKept b) (r .options)
+stored r b Options = registers (r .control) (r .frequency) (r .mask2) (r .mask1) (optionsKept b)
+
+-- "To 00h with bit 7 and not 6: all ramp values and spin-up times become 0"
 unfoldable pub boxWritten : State → ℕ → BoxRegister → State
 boxWritten s b Control =
-    let r = s .registers in
-    let next = withRegisters s (registers (controlKept b) (r .frequency) (r .mask2) (r .mask1) (r .options)) in
+    let next = withRegisters s (stored (s .registers) b Control) in
     if bit 6 b then reset s
     else if bit 7 b then withChannels next (map stopped (s .channels))
     else next
-boxWritten s b Frequency = let r = s .registers in withRegisters s (registers (r .control) b (r .mask2) (r .mask1) (r .options))
-boxWritten s b Mask2 = let r = s .registers in withRegisters s (registers (r .control) (r .frequency) (maskKept b) (r .mask1) (r .options))
-boxWritten s b Mask1 = let r = s .registers in withRegisters s (registers (r .control) (r .frequency) (r .mask2) (maskKept b) (r .options))
-boxWritten s b Options = let r = s .registers in withRegisters s (registers (r .control) (r .frequency) (r .mask2) (r .mask1) (optionsKept b))
+boxWritten s b Frequency = withRegisters s (stored (s .registers) b Frequency)
+boxWritten s b Mask2 = withRegisters s (stored (s .registers) b Mask2)
+boxWritten s b Mask1 = withRegisters s (stored (s .registers) b Mask1)
+boxWritten s b Options = withRegisters s (stored (s .registers) b Options)
 
 -- ---- the call
 

@@ -45,7 +45,10 @@ returns-3 c = rw (c .before .before .before .register .given .1) (rw (c .before 
 
 returns-4 : tie.Need-returns-4
 unfolding channelByte
-returns-4 c = rw (c .before .before .before .register2 .given .1) (rw (c .before .count-word .ensures) at (c .word-byte2 .ensures))
+returns-4 c =
+    rw
+    (c .before .before .before .register2 .given .1)
+    (rw (c .before .count-word .ensures) at (c .word-byte2 .ensures))
 
 returns-5 : tie.Need-returns-5
 unfolding channelByte

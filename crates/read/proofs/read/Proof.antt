@@ -11,7 +11,7 @@ use Rattle.rules.specs.declared.Place.{Place}
 use Rattle.rules.specs.declared.Place.the-variants.{Absent, ReadOnly, Shared, Own}
 use Rattle.rules.specs.Read.{readAt}
 use Rattle.rules.proofs.Map.{own-below-six, status-below-six}
-use Rattle.rules.proofs.Kept.{ReadPromise, read-refused, read-answered}
+use Rattle.rules.proofs.Promises.{ReadPromise, read-refused, read-answered}
 use Rattle.read.proofs.read.Statement.{statement}
 use Rattle.read.proofs.read.Tie as tie
 

@@ -73,7 +73,10 @@ returns-2 c = rw (c .before .before .enum-told2 .given .1) (c .fault-byte .ensur
 
 returns-3 : tie.Need-returns-3
 unfolding statusByte
-returns-3 c = rw (c .before .before .before .before .register .given .1) (rw (c .before .count-word .ensures) at (c .word-byte .ensures))
+returns-3 c =
+    rw
+    (c .before .before .before .before .register .given .1)
+    (rw (c .before .count-word .ensures) at (c .word-byte .ensures))
 
 returns-4 : tie.Need-returns-4
 unfolding statusByte
@@ -81,7 +84,10 @@ returns-4 c = rw (c .before .before .register2 .given .1) (c .word-byte2 .ensure
 
 returns-5 : tie.Need-returns-5
 unfolding statusByte
-returns-5 c = rw (c .before .before .before .before .before .before .register3 .given .1) (rw (c .before .output-word .ensures, c .before .before .output-duty .ensures, c .before .before .before .conditions .ensures) at (c .word-byte3 .ensures))
+returns-5 c =
+    rw
+    (c .before .before .before .before .before .before .register3 .given .1)
+    (rw (c .before .output-word .ensures, c .before .before .output-duty .ensures, c .before .before .before .conditions .ensures) at (c .word-byte3 .ensures))
 
 pub status-byte-spec : {M : Type 1} → statement M
 status-byte-spec =

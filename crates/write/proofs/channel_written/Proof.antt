@@ -53,11 +53,23 @@ returns-2 c = rw (c .before .enum-told2 .given .1, c .dynamics-kept .ensures)
 
 returns-3 : tie.Need-returns-3
 unfolding channelWritten
-returns-3 c = rw (c .before .before .before .before .register .given .1, c .word-duty .ensures, c .before .with-byte .ensures, c .before .before .duty-word .ensures)
+returns-3 c =
+    rw (
+      c .before .before .before .before .register .given .1,
+      c .word-duty .ensures,
+      c .before .with-byte .ensures,
+      c .before .before .duty-word .ensures,
+    )
 
 returns-4 : tie.Need-returns-4
 unfolding channelWritten
-returns-4 c = rw (c .before .before .before .before .register2 .given .1, c .word-count .ensures, c .before .with-byte2 .ensures, c .before .before .count-word .ensures)
+returns-4 c =
+    rw (
+      c .before .before .before .before .register2 .given .1,
+      c .word-count .ensures,
+      c .before .with-byte2 .ensures,
+      c .before .before .count-word .ensures,
+    )
 
 returns-5 : tie.Need-returns-5
 unfolding channelWritten

@@ -20,11 +20,22 @@ all-stopped-requires c κs = search needs
 
 returns-2 : tie.Need-returns-2
 unfolding boxWritten
-returns-2 c = simp (ne-eqb _ 1 (c .before .before .before .before .before .if1 .left), eq-eqb _ 1 (c .before .before .if2 .taken), c .before .before .before .before .control-kept .ensures, c .all-stopped .ensures)
+returns-2 c =
+    simp (
+      ne-eqb _ 1 (c .before .before .before .before .before .if1 .left),
+      eq-eqb _ 1 (c .before .before .if2 .taken),
+      c .before .before .before .before .control-kept .ensures,
+      c .all-stopped .ensures,
+    )
 
 returns-3 : tie.Need-returns-3
 unfolding boxWritten
-returns-3 c = simp (ne-eqb _ 1 (c .before .before .before .if1 .left), ne-eqb _ 1 (c .if2 .left), c .before .before .control-kept .ensures)
+returns-3 c =
+    simp (
+      ne-eqb _ 1 (c .before .before .before .if1 .left),
+      ne-eqb _ 1 (c .if2 .left),
+      c .before .before .control-kept .ensures,
+    )
 
 pub control-written-spec : {M : Type 1} → statement M
 control-written-spec =

@@ -12,7 +12,7 @@ use Rattle.rules.specs.Valid.{validOf}
 use Rattle.rules.specs.Write.{writeAt}
 use Rattle.rules.proofs.Map.{own-below-six}
 use Rattle.rules.proofs.Valid.{parts}
-use Rattle.rules.proofs.Kept.{WritePromise, write-refused, write-answered}
+use Rattle.rules.proofs.Promises.{WritePromise, write-refused, write-answered}
 use Rattle.write.proofs.write.Statement.{statement}
 use Rattle.write.proofs.write.Tie as tie
 
@@ -68,7 +68,10 @@ enum-known-place : tie.Need-enum-known-place
 enum-known-place c = search needs
 
 box-written-requires : tie.Need-box-written-requires
-box-written-requires c κs = rw (c .before .before .before .before .accessed .ensures) (parts _ (was-valid (c .before .before .before)) .start)
+box-written-requires c κs =
+    rw
+    (c .before .before .before .before .accessed .ensures)
+    (parts _ (was-valid (c .before .before .before)) .start)
 
 answered-requires-4 : tie.Need-answered-requires-4
 answered-requires-4 c κs = search needs

@@ -20,8 +20,9 @@ six c = search needs
 
 small : (c : tie.In-loop Inv-loop μ-loop) → c .before .loop .byte < 64
 small c =
-    let l : length (drop (c .before .loop .i) (c .before .before .args .t1)) ≤ 6 = rw length-drop (omega (arith, six (c .before .before))) in
-    rw (c .before .loop .inv .1) (fault-byte-small (drop (c .before .loop .i) (c .before .before .args .t1)) l)
+    let rest = drop (c .before .loop .i) (c .before .before .args .t1) in
+    let l : length rest ≤ 6 = rw length-drop (omega (arith, six (c .before .before))) in
+    rw (c .before .loop .inv .1) (fault-byte-small rest l)
 
 loop-holds : tie.Need-loop-holds Inv-loop μ-loop
 loop-holds c = (search needs, ap faultByte (sym (drop-of-length-le (c .args .t1) {i = 6} (omega (arith, six c)))))
@@ -48,7 +49,12 @@ loop-less : tie.Need-loop-less Inv-loop μ-loop
 loop-less c = omega arith
 
 loop-again : tie.Need-loop-again Inv-loop μ-loop
-loop-again c = (omega arith, ap₂ (λ x y. x * 2 + y) (c .before .before .loop .inv .1) (c .flag .ensures .0) ∙ sym (fault-byte-front (c .before .before .before .args .t1) (c .before .before .loop .i) (omega arith) (omega (arith, six (c .before .before .before)))))
+loop-again c =
+    let start = c .before .before .before in (
+      omega arith,
+      ap₂ (λ x y. x * 2 + y) (c .before .before .loop .inv .1) (c .flag .ensures .0)
+          ∙ sym (fault-byte-front (start .args .t1) (c .before .before .loop .i) (omega arith) (omega (arith, six start))),
+    )
 
 returns : tie.Need-returns Inv-loop μ-loop
 returns c = let none : c .before .loop .i ≡ 0 = omega arith in rw none at (c .before .loop .inv .1)

@@ -19,11 +19,16 @@ own-duty-requires c κs = search needs
 
 returns : tie.Need-returns
 unfolding outputDuty
-returns c = ap (λ o. dutyUnder o (c .before .before .before .before .args .channel)) (sym (c .before .forced .given .1) ∙ c .before .before .before .override-of .ensures)
+returns c =
+    ap (λ o. dutyUnder o (c .before .before .before .before .args .channel))
+    (sym (c .before .forced .given .1) ∙ c .before .before .before .override-of .ensures)
 
 returns-2 : tie.Need-returns-2
 unfolding outputDuty
-returns-2 c = c .own-duty .ensures ∙ ap (λ o. dutyUnder o (c .before .before .before .before .args .channel)) (sym (c .before .enum-told .given .1) ∙ c .before .before .before .override-of .ensures)
+returns-2 c =
+    c .own-duty .ensures
+    ∙ ap (λ o. dutyUnder o (c .before .before .before .before .args .channel))
+    (sym (c .before .enum-told .given .1) ∙ c .before .before .before .override-of .ensures)
 
 pub output-duty-spec : {M : Type 1} → statement M
 output-duty-spec =

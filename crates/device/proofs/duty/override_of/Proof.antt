@@ -19,14 +19,27 @@ returns-3 c = simp (ne-eqb _ 1 (c .before .before .before .if1 .left), c .before
 
 returns-4 : tie.Need-returns-4
 unfolding overrideOf
-returns-4 c = simp (ne-eqb _ 1 (c .before .before .before .before .if1 .left), c .before .before .if2 .left, c .before .if3 .left, c .if4 .taken)
+returns-4 c =
+    simp (
+      ne-eqb _ 1 (c .before .before .before .before .if1 .left),
+      c .before .before .if2 .left,
+      c .before .if3 .left,
+      c .if4 .taken,
+    )
 
 failed-fan-requires : tie.Need-failed-fan-requires
 failed-fan-requires c κs = search needs
 
 returns-5 : tie.Need-returns-5
 unfolding overrideOf
-returns-5 c = simp (ne-eqb _ 1 (c .before .before .before .before .before .if1 .left), c .before .before .before .if2 .left, c .before .before .if3 .left, c .before .if4 .left) (c .failed-fan .ensures)
+returns-5 c =
+    simp (
+      ne-eqb _ 1 (c .before .before .before .before .before .if1 .left),
+      c .before .before .before .if2 .left,
+      c .before .before .if3 .left,
+      c .before .if4 .left,
+    )
+    (c .failed-fan .ensures)
 
 pub override-of-spec : {M : Type 1} → statement M
 override-of-spec =

@@ -18,7 +18,13 @@ valid-channels-requires c κs = search needs
 
 returns : tie.Need-returns
 unfolding validOf
-returns c = simp (c .before .before .before .before .valid-registers .ensures, c .before .before .before .valid-start .ensures, c .before .before .valid-timer .ensures, c .valid-channels .ensures)
+returns c =
+    simp (
+      c .before .before .before .before .valid-registers .ensures,
+      c .before .before .before .valid-start .ensures,
+      c .before .before .valid-timer .ensures,
+      c .valid-channels .ensures,
+    )
 
 pub valid-spec : {M : Type 1} → statement M
 valid-spec =

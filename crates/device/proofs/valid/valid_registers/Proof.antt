@@ -18,7 +18,13 @@ options-kept-requires c κs = search needs
 
 returns : tie.Need-returns
 unfolding validRegisters
-returns c = simp (c .before .before .before .before .before .before .before .control-kept .ensures, c .before .before .before .before .before .mask-kept .ensures, c .before .before .before .mask-kept2 .ensures, c .before .options-kept .ensures)
+returns c =
+    simp (
+      c .before .before .before .before .before .before .before .control-kept .ensures,
+      c .before .before .before .before .before .mask-kept .ensures,
+      c .before .before .before .mask-kept2 .ensures,
+      c .before .options-kept .ensures,
+    )
 
 pub valid-registers-spec : {M : Type 1} → statement M
 valid-registers-spec =
