@@ -5,13 +5,12 @@ use mathlib.Core.Bool.{true, not, _&&_}
 use lib.Dec.{ltb, leb, eqb, lit<}
 use borrow.Author.Tests.{ltb-true}
 use Rattle.rules.specs.Types.{Channel, State, Conditions, Override, None, Duty}
-use Rattle.rules.specs.State.{blank, channel}
+use Rattle.rules.specs.State.{channel}
 use Rattle.rules.specs.Registers.{standby, monitorOnly}
 use Rattle.rules.specs.Duty.{conditionsOf, overrideOf, dutyUnder, outputDuty}
-use Rattle.rules.specs.Valid.{validChannel, validOf}
-use Rattle.rules.proofs.Tests.{choice, every-at}
-use Rattle.rules.proofs.Valid.{parts, channel-parts, four}
-use Rattle.rules.proofs.Kept.{blank-valid}
+use Rattle.rules.specs.Valid.{validOf}
+use Rattle.rules.proofs.Tests.{choice}
+use Rattle.rules.proofs.Valid.{parts, parts-of-channel, four}
 
 -- a duty that an override forces
 InRange : Override → Type 0
@@ -37,8 +36,7 @@ duty-in-range (Duty duty) ch h l = h
 pub output-duty-lt : (s : State) (i : ℕ) → validOf s ≡ true → outputDuty (conditionsOf s) (channel s i) < 512
 unfolding outputDuty
 output-duty-lt s i e =
-    let st = standby (s .registers) in
     let ch = channel s i in
-    let p = channel-parts st ch (every-at (validChannel st) (s .channels) i blank (blank-valid st) (parts s e .channels)) in
+    let p = parts-of-channel _ (s .channels) i (parts s e .channels) in
     duty-in-range (overrideOf (conditionsOf s) ch) ch (override-in-range (conditionsOf s) ch)
     (ltb-true (ch .ramp) 512 (four (ltb (ch .ramp) 512) (leb (ch .spin) 1024) _ _ (p .motion) .0))

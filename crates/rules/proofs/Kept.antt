@@ -9,7 +9,7 @@ use lib.Dec.{leb, ltb, eqb, lit<}
 use borrow.Author.Tests.{lt-ltb}
 use Rattle.rules.specs.Types.{Channel, Registers, StartValues, Timer, State, BoxRegister, Control, Frequency, Mask2, Mask1, Options, ChannelRegister, Config, Dynamics, Target, TargetCount, Window, Place, Absent, ReadOnly, Shared, Own, Answer}
 use Rattle.rules.specs.Basics.{_implies_, every, bit}
-use Rattle.rules.specs.State.{blank, channel, withSettings, withChannels, withRegisters, registers}
+use Rattle.rules.specs.State.{channel, withSettings, withChannels, withRegisters, registers}
 use Rattle.rules.specs.Registers.{standby, watchdogCode, monitorOnly, controlKept, dynamicsKept, maskKept, optionsKept, configRefused, targetCount}
 use Rattle.rules.specs.Words.{withByte, dutyWord, countWord}
 use Rattle.rules.specs.Time.{watchdogLimit}
@@ -19,8 +19,8 @@ use Rattle.rules.specs.Start.{startChannel, asAtStart, zeroState, startO
 use Rattle.rules.specs.Write.{stopped, channelWritten, byteRefused, reset, boxWritten, ownWritten, writeAt, writeOf}
 use Rattle.rules.specs.Read.{statusCleared, afterRead, readAt, readOf}
 use Rattle.rules.specs.Calls.{accessed}
-use Rattle.rules.proofs.Tests.{same, choice, and-left, and-both, allBelow, all-below, every-at, every-set, every-map, every-replicate}
-use Rattle.rules.proofs.Valid.{parts, valid-of-parts, ChannelParts, channel-parts, valid-of-channel-parts, settings-parts, registers-parts, valid-of-registers-parts, StartParts, start-parts, four, of-four}
+use Rattle.rules.proofs.Tests.{same, choice, and-left, and-both, allBelow, all-below, every-set, every-map, every-replicate}
+use Rattle.rules.proofs.Valid.{parts, valid-of-parts, ChannelParts, channel-parts, parts-of-channel, valid-of-channel-parts, settings-parts, registers-parts, valid-of-registers-parts, StartParts, start-parts, four, of-four}
 
 -- ---- what a register keeps of a byte it keeps again: by a test of every byte
 
@@ -228,16 +228,10 @@ box-written s b h Options f =
 
 -- ---- a channel's register
 
-pub blank-valid : (inStandby : Bool) → validChannel inStandby blank ≡ true
-unfolding validChannel
-blank-valid true = refl
-blank-valid false = refl
-
 own-written : (s : State) (b i : ℕ) → b < 256 → (r : ChannelRegister) → byteRefused r b ≡ false → Fed s → Fed (ownWritten s b r i)
 own-written s b i h r e f =
     let inStandby = standby (s .registers) in
-    let here = every-at (validChannel inStandby) (s .channels) i blank (blank-valid inStandby) (f .channels) in
-    let before = channel-parts inStandby (channel s i) here in
+    let before = parts-of-channel inStandby (s .channels) i (f .channels) in
     let after = valid-of-channel-parts inStandby _ (channel-written inStandby (channel s i) b h r e before) in
     rebuilt-fed s (s .registers) _ (f .registers) (every-set (validChannel inStandby) (s .channels) i _ after (f .channels)) f
 

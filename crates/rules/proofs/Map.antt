@@ -23,42 +23,43 @@ below a limit p q f g = choice (Rung a) (ltb a limit) p q (λ e. f (ltb-true a l
 absent : (a : ℕ) → Rung a Absent
 absent a = record { small = omega arith; beyond = λ h. refl }
 
-here : (a limit : ℕ) (p : Place) → limit ≤ 0x66 → a < limit → indexOf p < 6 → Rung a p
-here a limit p l h i = record { small = i; beyond = λ g. absurd (omega arith) }
+rung : (a limit : ℕ) (p q : Place) → limit ≤ 0x66 → (a < limit → indexOf p < 6) → (limit ≤ a → Rung a q) →
+    Rung a (if ltb a limit then p else q)
+rung a limit p q l i g = below a limit p q (λ h. record { small = i h; beyond = λ b. absurd (omega arith) }) g
 
 setting-rung : (a : ℕ) → Rung a (settingAt a)
 unfolding settingAt
 setting-rung a =
-    below a 0x01 _ _ (λ h. here a 0x01 _ (omega arith) h (omega arith)) λ _.
-    below a 0x02 _ _ (λ h. here a 0x02 _ (omega arith) h (omega arith)) λ _.
-    below a 0x08 _ _ (λ h. here a 0x08 _ (omega arith) h (omega arith)) λ _.
-    below a 0x0E _ _ (λ h. here a 0x0E _ (omega arith) h (omega arith)) λ _.
-    below a 0x10 _ _ (λ h. absent a) λ _.
-    below a 0x11 _ _ (λ h. here a 0x11 _ (omega arith) h (omega arith)) λ _.
-    below a 0x12 _ _ (λ h. here a 0x12 _ (omega arith) h (omega arith)) λ _.
-    below a 0x13 _ _ (λ h. here a 0x13 _ (omega arith) h (omega arith)) λ _.
-    below a 0x14 _ _ (λ h. here a 0x14 _ (omega arith) h (omega arith)) λ _.
-    below a 0x15 _ _ (λ h. here a 0x15 _ (omega arith) h (omega arith)) λ _. absent a
+    rung a _ _ _ (omega arith) (λ h. omega arith) λ _.
+    rung a _ _ _ (omega arith) (λ h. omega arith) λ _.
+    rung a _ _ _ (omega arith) (λ h. omega arith) λ _.
+    rung a _ _ _ (omega arith) (λ h. omega arith) λ _.
+    rung a _ _ _ (omega arith) (λ h. omega arith) λ _.
+    rung a _ _ _ (omega arith) (λ h. omega arith) λ _.
+    rung a _ _ _ (omega arith) (λ h. omega arith) λ _.
+    rung a _ _ _ (omega arith) (λ h. omega arith) λ _.
+    rung a _ _ _ (omega arith) (λ h. omega arith) λ _.
+    rung a _ _ _ (omega arith) (λ h. omega arith) λ _. absent a
 
 status-rung : (a : ℕ) → Rung a (statusAt a)
 unfolding statusAt
 status-rung a =
-    below a 0x24 _ _ (λ h. here a 0x24 _ (omega arith) h (omega arith)) λ _.
-    below a 0x30 _ _ (λ h. here a 0x30 _ (omega arith) h (omega arith)) λ _.
-    below a 0x3C _ _ (λ h. here a 0x3C _ (omega arith) h (omega arith)) λ _. absent a
+    rung a _ _ _ (omega arith) (λ h. omega arith) λ _.
+    rung a _ _ _ (omega arith) (λ h. omega arith) λ _.
+    rung a _ _ _ (omega arith) (λ h. omega arith) λ _. absent a
 
 target-rung : (a : ℕ) → Rung a (targetAt a)
 unfolding targetAt
 target-rung a =
-    below a 0x4C _ _ (λ h. here a 0x4C _ (omega arith) h (omega arith)) λ _.
-    below a 0x50 _ _ (λ h. absent a) λ _.
-    below a 0x5C _ _ (λ h. here a 0x5C _ (omega arith) h (omega arith)) λ _.
-    below a 0x60 _ _ (λ h. absent a) λ _.
-    below a 0x66 _ _ (λ h. here a 0x66 _ (omega arith) h (omega arith)) λ _. absent a
+    rung a _ _ _ (omega arith) (λ h. omega arith) λ _.
+    rung a _ _ _ (omega arith) (λ h. omega arith) λ _.
+    rung a _ _ _ (omega arith) (λ h. omega arith) λ _.
+    rung a _ _ _ (omega arith) (λ h. omega arith) λ _.
+    rung a _ _ _ (omega arith) (λ h. omega arith) λ _. absent a
 
 place-rung : (a : ℕ) → Rung a (placeAt a)
 unfolding placeAt
-place-rung a = below a 0x18 _ _ (λ h. setting-rung a) λ _. below a 0x40 _ _ (λ h. status-rung a) λ _. target-rung a
+place-rung a = below a _ _ _ (λ h. setting-rung a) λ _. below a _ _ _ (λ h. status-rung a) λ _. target-rung a
 
 -- the channel that the map names is one of the six
 pub own-below-six : (a i : ℕ) (r : ChannelRegister) → placeAt a ≡ Own r i → i < 6

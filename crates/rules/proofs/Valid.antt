@@ -1,14 +1,17 @@
 -- A valid state by its parts, and the parts that the calls change.
-use Prim.Native.Nat.{_<_}
-use mathlib.Core.Path.{_≡_}
-use mathlib.Core.Bool.{Bool, true, not, _&&_, _||_}
+use Prim.Native.Nat.{ℕ, _<_}
+use mathlib.Core.Path.{_≡_, refl}
+use mathlib.Core.Bool.{Bool, true, false, not, _&&_, _||_}
+use mathlib.Core.List.{List}
 use lib.Dec.{ltb, eqb}
+use lib.ListN.{getD}
 use borrow.Author.Tests.{ltb-true}
 use Rattle.rules.specs.Types.{Channel, Registers, StartValues, State}
 use Rattle.rules.specs.Basics.{every}
+use Rattle.rules.specs.State.{blank}
 use Rattle.rules.specs.Registers.{standby, watchdogCode, monitorOnly, targetCount, controlKept, dynamicsKept, maskKept, optionsKept, configRefused}
 use Rattle.rules.specs.Valid.{validSettings, validResults, validMotion, validChannel, validRegisters, validStart, validTimer, validOf}
-use Rattle.rules.proofs.Tests.{and-left, and-right, and-both}
+use Rattle.rules.proofs.Tests.{and-left, and-right, and-both, every-at}
 
 pub record Parts (s : State) : Type 0 where
   pub registers : validRegisters (s .registers) ≡ true
@@ -90,9 +93,6 @@ settings-parts ch e =
     let t = four (not (configRefused (ch .config))) _ _ _ e in
     record { config = t .0; dynamics = t .1; target = t .2; target-count = t .3 }
 
-pub valid-of-settings-parts : (ch : Channel) → SettingsParts ch → validSettings ch ≡ true
-valid-of-settings-parts ch p = of-four _ _ _ _ (p .config) (p .dynamics) (p .target) (p .target-count)
-
 pub registers-parts : (r : Registers) → validRegisters r ≡ true → RegistersParts r
 unfolding validRegisters
 registers-parts r e =
@@ -102,3 +102,14 @@ registers-parts r e =
 pub valid-of-registers-parts : (r : Registers) → RegistersParts r → validRegisters r ≡ true
 unfolding validRegisters
 valid-of-registers-parts r p = of-four _ _ _ _ (p .control) (p .mask2) (p .mask1) (p .options)
+
+-- a channel of valid ones is valid, also past their end
+blank-valid : (inStandby : Bool) → validChannel inStandby blank ≡ true
+unfolding validChannel
+blank-valid true = refl
+blank-valid false = refl
+
+pub parts-of-channel : (inStandby : Bool) (chs : List Channel) (i : ℕ) → every (validChannel inStandby) chs ≡ true →
+    ChannelParts inStandby (getD chs i blank)
+parts-of-channel inStandby chs i e =
+    channel-parts inStandby _ (every-at (validChannel inStandby) chs i blank (blank-valid inStandby) e)
