@@ -8,7 +8,7 @@ use native.Mathlib.Nat.{mod-lt}
 use lib.Dec.{leb, ltb, eqb, lit<}
 use borrow.Author.Tests.{lt-ltb}
 use Rattle.rules.specs.Types.{Channel, Registers, StartValues, Timer, State, BoxRegister, Control, Frequency, Mask2, Mask1, Options, ChannelRegister, Config, Dynamics, Target, TargetCount, Window, Place, Absent, ReadOnly, Shared, Own, Answer}
-use Rattle.rules.specs.Basics.{_implies_, every, bit}
+use Rattle.rules.specs.Basics.{_implies_, every, bit, bits}
 use Rattle.rules.specs.State.{channel, withSettings, withChannels, withRegisters, registers}
 use Rattle.rules.specs.Registers.{standby, watchdogCode, monitorOnly, controlKept, dynamicsKept, maskKept, optionsKept, configRefused, targetCount}
 use Rattle.rules.specs.Words.{withByte, dutyWord, countWord}
@@ -20,7 +20,7 @@ use Rattle.rules.specs.Write.{stopped, channelWritten, byteRefused, rese
 use Rattle.rules.specs.Read.{statusCleared, afterRead, readAt, readOf}
 use Rattle.rules.specs.Calls.{accessed}
 use Rattle.rules.proofs.Tests.{same, choice, and-left, and-both, allBelow, all-below, every-set, every-map, every-replicate}
-use Rattle.rules.proofs.Valid.{parts, valid-of-parts, ChannelParts, channel-parts, parts-of-channel, valid-of-channel-parts, settings-parts, registers-parts, valid-of-registers-parts, StartParts, start-parts, four, of-four}
+use Rattle.rules.proofs.Valid.{parts, valid-of-parts, ChannelParts, channel-parts, parts-of-channel, valid-of-channel-parts, settings-parts, registers-parts, valid-of-registers-parts, start-target-lt, four, of-four}
 
 -- ---- what a register keeps of a byte it keeps again: by a test of every byte
 
@@ -126,24 +126,25 @@ channel-written inStandby ch b h Window e p = record { settings = p .settings; r
 
 -- ---- as at start
 
-start-channel-valid : (inStandby : Bool) (v : StartValues) → StartParts v → validChannel inStandby (startChannel v) ≡ true
-start-channel-valid inStandby v p =
-    let config = all-below 4 (λ code. not (configRefused (code * 0x20))) refl (v .spinup) (p .spinup) in
+start-channel-valid : (inStandby : Bool) (v : StartValues) → v .target < 512 → validChannel inStandby (startChannel v) ≡ true
+start-channel-valid inStandby v h =
+    let config = all-below 4 (λ code. not (configRefused (code * 0x20))) refl (bits 1 0 (v .spinup)) (omega arith) in
     valid-of-channel-parts inStandby (startChannel v)
     (record {
-      settings = of-four _ _ _ _ config refl (lt-ltb _ 512 (p .target)) refl;
+      settings = of-four _ _ _ _ config refl (lt-ltb _ 512 h) refl;
       results = refl;
       motion = stopped-motion (inStandby || monitorOnly (startChannel v)) (startChannel v);
     })
 
 as-at-start : (v : StartValues) (clock : ℕ) (pin : Bool) → validStart v ≡ true → Fed (asAtStart v clock pin)
 as-at-start v clock pin e =
-    let p = start-parts v e in
-    let control = all-below 4 (λ code. eqb (controlKept (0x20 + code * 2)) (0x20 + code * 2)) refl (v .watchdog) (p .watchdog) in
+    let watchdog = bits 1 0 (v .watchdog) in
+    let control = all-below 4 (λ code. eqb (controlKept (0x20 + code * 2)) (0x20 + code * 2)) refl watchdog (omega arith) in
     record {
       registers = valid-of-registers-parts _ (record { control = control; mask2 = refl; mask1 = refl; options = refl });
       start = e;
-      channels = every-replicate (validChannel (bit 7 (0x20 + v .watchdog * 2))) 6 (startChannel v) (start-channel-valid _ v p);
+      channels =
+          every-replicate (validChannel (bit 7 (0x20 + watchdog * 2))) 6 (startChannel v) (start-channel-valid _ v (start-target-lt v e));
       idle = refl;
       expired = refl;
     }

@@ -36,11 +36,6 @@ pub record RegistersParts (r : Registers) : Type 0 where
   pub mask1 : eqb (maskKept (r .mask1)) (r .mask1) ≡ true
   pub options : eqb (optionsKept (r .options)) (r .options) ≡ true
 
-pub record StartParts (v : StartValues) : Type 0 where
-  pub watchdog : v .watchdog < 4
-  pub spinup : v .spinup < 4
-  pub target : v .target < 512
-
 -- four tests in a row, taken apart and put together
 module _ (a b c d : Bool) where
   pub four : (a && b && c && d) ≡ true → (a ≡ true) × (b ≡ true) × (c ≡ true) × (d ≡ true)
@@ -78,15 +73,9 @@ module _ (inStandby : Bool) (ch : Channel) where
   unfolding validChannel
   valid-of-channel-parts p = and-both _ _ (and-both _ _ (p .settings) (p .results)) (p .motion)
 
-pub start-parts : (v : StartValues) → validStart v ≡ true → StartParts v
+pub start-target-lt : (v : StartValues) → validStart v ≡ true → v .target < 512
 unfolding validStart
-start-parts v e =
-    let two = and-left (ltb (v .watchdog) 4 && ltb (v .spinup) 4) _ e in
-    record {
-      watchdog = ltb-true _ 4 (and-left _ _ two);
-      spinup = ltb-true _ 4 (and-right (ltb (v .watchdog) 4) _ two);
-      target = ltb-true _ 512 (and-right (ltb (v .watchdog) 4 && ltb (v .spinup) 4) _ e);
-    }
+start-target-lt v e = ltb-true _ 512 (and-right (ltb (v .watchdog) 4 && ltb (v .spinup) 4) _ e)
 
 pub settings-parts : (ch : Channel) → validSettings ch ≡ true → SettingsParts ch
 settings-parts ch e =

@@ -3,18 +3,18 @@ use Prim.Native.Nat.{ℕ, _+_, _*_}
 use mathlib.Core.Bool.{Bool, true, false}
 use lib.ListN.{replicate}
 use Rattle.rules.specs.Types.{Channel, StartValues, State, Answer}
-use Rattle.rules.specs.Basics.{if_then_else_}
+use Rattle.rules.specs.Basics.{if_then_else_, bits}
 use Rattle.rules.specs.State.{blank, registers}
 use Rattle.rules.specs.Words.{wordCount}
 use Rattle.rules.specs.Valid.{validStart}
 use Rattle.rules.specs.Calls.{accepted, startOutOfRange, answer}
 
--- 02h 0XX0 0000b, 08h 0100 1100b, 18h FFE0h, 40h the pin-set target, 50h 3C00h, 60h 0000 0000b.
+-- 02h 0XX0 0000b with the pin-set code, 08h 0100 1100b, 18h FFE0h, 40h the pin-set target, 50h 3C00h, 60h 0000 0000b.
 -- "Ramp, spin-up, idle, clock and queue counts begin at 0"
 abbrev pub startChannel : StartValues → Channel
 startChannel v =
     record {
-      config = v .spinup * 0x20;
+      config = bits 1 0 (v .spinup) * 0x20;
       dynamics = 0x4C;
       window = 0;
       target = v .target;
@@ -26,13 +26,13 @@ startChannel v =
       spin = 0;
     }
 
--- the state as at start, at a clock and a pin level. 00h 0010 0XX0b, 01h the pin-set byte, 12h and 13h 0011 1111b,
--- 14h 0100 0101b
+-- the state as at start, at a clock and a pin level. 00h 0010 0XX0b with the pin-set code, 01h the pin-set byte,
+-- 12h and 13h 0011 1111b, 14h 0100 0101b
 abbrev pub asAtStart : StartValues → ℕ → Bool → State
 asAtStart v clock pin =
     record {
       channels = replicate 6 (startChannel v);
-      registers = registers (0x20 + v .watchdog * 2) (v .frequency) 0x3F 0x3F 0x45;
+      registers = registers (0x20 + bits 1 0 (v .watchdog) * 2) (v .frequency) 0x3F 0x3F 0x45;
       pin = pin;
       start = v;
       timer = record { clock = clock; idle = 0; expired = false; status = false };

@@ -1,7 +1,7 @@
 // The call start, and the state that a reset brings back.
 ghost use mathlib.Core.Path.{_≡_};
 ghost use mathlib.Core.Bool.{true};
-ghost use Rattle.rules.specs.Valid.{validStart, validOf};
+ghost use Rattle.rules.specs.Valid.{validOf};
 ghost use Rattle.rules.specs.Calls.{startOutOfRange, answer};
 ghost use Rattle.rules.specs.Start.{startChannel, asAtStart, zeroState, startOf};
 use rules::ACCEPTED;
@@ -14,11 +14,10 @@ use rules::State;
 use rules::Timer;
 
 fn start_channel(start: StartValues) -> Channel
-    requires { ⌜ validStart start ≡ true ⌝ }
     ensures { λ r. ⌜ r ≡ startChannel start ⌝ }
 {
     Channel {
-        config: start.spinup * 0x20,
+        config: start.spinup % 4 * 0x20,
         dynamics: 0x4C,
         window: 0,
         target: start.target,
@@ -33,7 +32,6 @@ fn start_channel(start: StartValues) -> Channel
 
 // The state as at start, but for the clock and the pin level.
 pub fn as_at_start(start: StartValues, clock: u32, pin: bool) -> State
-    requires { ⌜ validStart start ≡ true ⌝ }
     ensures { λ r. ⌜ r ≡ asAtStart start clock pin ⌝ }
 {
     let channel = start_channel(start);
@@ -41,7 +39,7 @@ pub fn as_at_start(start: StartValues, clock: u32, pin: bool) -> State
     State {
         channels: channels,
         registers: Registers {
-            control: 0x20 + start.watchdog * 2,
+            control: 0x20 + start.watchdog % 4 * 2,
             frequency: start.frequency,
             mask2: 0x3F,
             mask1: 0x3F,

@@ -5,7 +5,7 @@ ghost use mathlib.Core.List.{map};
 ghost use Prim.Native.Nat.{_<_};
 ghost use Rattle.rules.specs.declared.BoxRegister.the-variants.{Control};
 ghost use Rattle.rules.specs.declared.ChannelRegister.the-variants.{Config};
-ghost use Rattle.rules.specs.Valid.{validStart, validOf};
+ghost use Rattle.rules.specs.Valid.{validOf};
 ghost use Rattle.rules.specs.Calls.{answer};
 ghost use Rattle.rules.specs.Write.{stopped, channelWritten, byteRefused, boxWritten, ownWritten, writeOf};
 use device::valid::valid;
@@ -106,7 +106,6 @@ fn byte_refused(register: ChannelRegister, byte: u8) -> bool
 }
 
 fn control_written(state: State, byte: u8) -> State
-    requires { ⌜ validStart (state .start) ≡ true ⌝ }
     ensures { λ r. ⌜ r ≡ boxWritten state byte Control ⌝ }
 {
     if byte / 64 % 2 == 1 {
@@ -126,7 +125,6 @@ fn control_written(state: State, byte: u8) -> State
 }
 
 fn box_written(state: State, byte: u8, register: BoxRegister) -> State
-    requires { ⌜ validStart (state .start) ≡ true ⌝ }
     ensures { λ r. ⌜ r ≡ boxWritten state byte register ⌝ }
 {
     let mut next = state;

@@ -1,6 +1,5 @@
 -- `start::as_at_start` meets its contract. Assumes nothing.
-use native.Mathlib.Omega.{arith}
-use Rattle.rules.proofs.Valid.{start-parts}
+use native.Mathlib.Nat.{div-one}
 use borrow.Author.Needs.{needs}
 use Rattle.start.proofs.as_at_start.Statement.{statement}
 use Rattle.start.proofs.as_at_start.Tie as tie
@@ -8,14 +7,14 @@ use Rattle.start.proofs.as_at_start.Tie as tie
 start-channel-requires : tie.Need-start-channel-requires
 start-channel-requires c κs = search needs
 
-mul-t6 : tie.Need-mul-t6
-mul-t6 c = omega (arith, start-parts (c .before .before .args .start) (c .before .before .pre))
+mul-t7 : tie.Need-mul-t7
+mul-t7 c = search needs
 
-add-t7 : tie.Need-add-t7
-add-t7 c = omega (arith, start-parts (c .before .before .args .start) (c .before .before .pre))
+add-t8 : tie.Need-add-t8
+add-t8 c = search needs
 
 returns : tie.Need-returns
-returns c = simp (c .before .start-channel .ensures)
+returns c = simp (div-one, c .before .start-channel .ensures)
 
 pub as-at-start-spec : {M : Type 1} → statement M
-as-at-start-spec = tie.close (tie.spec start-channel-requires mul-t6 add-t7 returns)
+as-at-start-spec = tie.close (tie.spec start-channel-requires mul-t7 add-t8 returns)

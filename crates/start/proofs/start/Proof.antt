@@ -51,13 +51,7 @@ cast-t9 : tie.Need-cast-t9
 cast-t9 c = search needs
 
 as-at-start-requires : tie.Need-as-at-start-requires
-unfolding startOf validStart
-as-at-start-requires c κs =
-    simp (
-      lt-ltb _ 4 (c .before .before .if1 .left),
-      lt-ltb _ 4 (c .before .if2 .left),
-      lt-ltb _ 512 (c .if3 .left),
-    )
+as-at-start-requires c κs = search needs
 
 returns-4 : tie.Need-returns-4
 unfolding startOf validStart

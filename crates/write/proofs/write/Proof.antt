@@ -1,26 +1,20 @@
 -- `write::write` meets its contract: each return is the line of the ladder that its tests chose. Assumes nothing.
 use Prim.Native.Nat.{ℕ, _<_}
 use mathlib.Core.Path.{_≡_, sym, _∙_}
-use mathlib.Core.Bool.{true}
 use borrow.Author.Needs.{needs}
 use borrow.Author.Tests.{not-true, not-false}
 use Rattle.rules.specs.declared.Answer.{Answer}
 use Rattle.rules.specs.declared.ChannelRegister.{ChannelRegister}
 use Rattle.rules.specs.declared.Place.{Place}
 use Rattle.rules.specs.declared.Place.the-variants.{Absent, ReadOnly, Shared, Own}
-use Rattle.rules.specs.Valid.{validOf}
 use Rattle.rules.specs.Write.{writeAt}
 use Rattle.rules.proofs.Map.{own-below-six}
-use Rattle.rules.proofs.Valid.{parts}
 use Rattle.rules.proofs.Promises.{WritePromise, write-refused, write-answered}
 use Rattle.write.proofs.write.Statement.{statement}
 use Rattle.write.proofs.write.Tie as tie
 
--- once the map has answered: the state is valid, a channel's index is below 6, and a line of the ladder is the promise
+-- once the map has answered: a channel's index is below 6, and a line of the ladder is the promise
 module _ (c : tie.After-place-at) where
-  was-valid : validOf (c .before .before .before .before .args .state) ≡ true
-  was-valid = sym (c .before .before .before .valid .ensures) ∙ not-false _ (c .before .before .if1 .left)
-
   index : (r : ChannelRegister) (i : ℕ) → c .place-at .result ≡ Own r i → i < 6
   index r i e = own-below-six (c .before .before .before .before .args .address) i r (sym (c .place-at .ensures) ∙ e)
 
@@ -30,7 +24,8 @@ module _ (c : tie.After-place-at) where
       (c .before .before .before .before .args .byte) r
   line p r e q =
       let start = c .before .before .before .before in
-      write-answered (start .args .state) (start .args .address) (start .args .byte) r p (start .fits .byte .fits) was-valid
+      write-answered (start .args .state) (start .args .address) (start .args .byte) r p (start .fits .byte .fits)
+      (sym (c .before .before .before .valid .ensures) ∙ not-false _ (c .before .before .if1 .left))
       (sym (c .place-at .ensures) ∙ e) q
 
 valid-requires : tie.Need-valid-requires
@@ -68,10 +63,7 @@ enum-known-place : tie.Need-enum-known-place
 enum-known-place c = search needs
 
 box-written-requires : tie.Need-box-written-requires
-box-written-requires c κs =
-    rw
-    (c .before .before .before .before .accessed .ensures)
-    (parts _ (was-valid (c .before .before .before)) .start)
+box-written-requires c κs = search needs
 
 answered-requires-4 : tie.Need-answered-requires-4
 answered-requires-4 c κs = search needs
