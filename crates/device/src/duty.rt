@@ -2,6 +2,7 @@
 ghost use mathlib.Core.Path.{_≡_};
 ghost use Prim.Native.Nat.{_≤_};
 ghost use Rattle.rules.specs.Basics.{flag};
+ghost use Rattle.rules.specs.Tick.{overridden};
 ghost use Rattle.rules.specs.Duty.{faultByte, conditionsOf, failedFan, overrideOf, ownDuty, outputDuty};
 use rules::Channel;
 use rules::Conditions;
@@ -76,6 +77,17 @@ pub fn override_of(conditions: Conditions, channel: Channel) -> Override
         return Override::Duty(511);
     }
     failed_fan(conditions.option, channel.fault, conditions.faulty)
+}
+
+// Whether an override is in force on a channel.
+pub fn overridden(conditions: Conditions, channel: Channel) -> bool
+    ensures { λ r. ⌜ r ≡ overridden conditions channel ⌝ }
+{
+    let forced = override_of(conditions, channel);
+    match forced {
+        Override::Duty(_) => true,
+        Override::None => false,
+    }
 }
 
 // A channel's duty where no override is in force.

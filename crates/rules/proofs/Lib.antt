@@ -8,3 +8,9 @@ pub mod Valid
 pub mod Kept
 pub mod Promises
 pub mod Duty
+pub mod Iterate
+pub mod Ramp
+pub mod ChannelTicks
+pub mod TickValid
+pub mod StateTicks
+pub mod Elapsed

@@ -30,6 +30,11 @@ pub flag-le : (on : Bool) → flag on ≤ 1
 flag-le true = omega arith
 flag-le false = omega arith
 
+-- by a test, and what it tells
+pub by-test : {A : Type 0} (test : Bool) → (test ≡ true → A) → (test ≡ false → A) → A
+by-test true f g = f refl
+by-test false f g = g refl
+
 -- what holds of either choice where its test tells so holds of the choice
 pub choice : {A : Type 0} (P : A → Type 0) (test : Bool) (a b : A) →
     (test ≡ true → P a) → (test ≡ false → P b) → P (if test then a else b)

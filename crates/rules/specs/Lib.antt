@@ -12,3 +12,5 @@ pub mod Valid
 pub mod Start
 pub mod Write
 pub mod Read
+pub mod Tick
+pub mod Elapsed

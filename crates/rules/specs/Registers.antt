@@ -13,9 +13,19 @@ standby r = bit 7 (r .control)
 abbrev pub watchdogCode : Registers → ℕ
 watchdogCode r = bits 2 1 (r .control)
 
--- 02h to 07h: bit 4 monitor only
+-- 02h to 07h: 6:5 spin-up code, 4 monitor only
+abbrev pub spinCode : Channel → ℕ
+spinCode ch = bits 6 5 (ch .config)
+
 abbrev pub monitorOnly : Channel → Bool
 monitorOnly ch = bit 4 (ch .config)
+
+-- 08h to 0Dh: 4:2 rate code, 1 asymmetric fall
+abbrev pub rateCode : Channel → ℕ
+rateCode ch = bits 4 2 (ch .dynamics)
+
+abbrev pub asymmetric : Channel → Bool
+asymmetric ch = bit 1 (ch .dynamics)
 
 -- 14h: 3:2 failed-fan option
 abbrev pub failedFanOption : Registers → ℕ

@@ -1,0 +1,85 @@
+-- `channels_after` meets its contract. The invariant: the first i channels have had their ticks. Assumes nothing.
+use Prim.Native.Nat.{_-_, _≤_}
+use mathlib.Core.Path.{_≡_, refl, _∙_, ap₂}
+use native.Mathlib.Numerals.{add-one}
+use native.Mathlib.Omega.{arith}
+use lib.ListN.{length, set}
+use borrow.Author.Needs.{needs}
+use Rattle.rules.specs.State.{blank}
+use Rattle.rules.specs.Tick.{overridden}
+use Rattle.rules.proofs.Each.{firstEach, one-more, all-of-them}
+use Rattle.rules.proofs.ChannelTicks.{channelTicks}
+use Rattle.ticks.proofs.channels_after.Statement.{statement}
+use Rattle.ticks.proofs.channels_after.Tie as tie
+
+abbrev Inv-loop : tie.InvT-loop
+Inv-loop now clock ticks channels next₀ i₀ next i = (i ≤ 6) × (next ≡ firstEach i (λ ch. channelTicks (overridden now ch) ticks clock ch) channels)
+
+abbrev μ-loop : tie.MeasureT-loop
+μ-loop now clock ticks channels next₀ i₀ next i = 6 - i
+
+six : (c : tie.Start Inv-loop μ-loop) → length (c .args .t2) ≡ 6
+six c = search needs
+
+loop-holds : tie.Need-loop-holds Inv-loop μ-loop
+loop-holds c = (search needs, refl)
+
+mul-channel : tie.Need-mul-channel Inv-loop μ-loop
+mul-channel c = omega arith
+
+array-copy-out-channel : tie.Need-array-copy-out-channel Inv-loop μ-loop
+array-copy-out-channel c = search needs
+
+overridden-requires : tie.Need-overridden-requires Inv-loop μ-loop
+overridden-requires c κs = search needs
+
+channel-after-requires : tie.Need-channel-after-requires Inv-loop μ-loop
+channel-after-requires c κs = search needs
+
+mul-next : tie.Need-mul-next Inv-loop μ-loop
+mul-next c = omega arith
+
+array-set-from-next : tie.Need-array-set-from-next Inv-loop μ-loop
+array-set-from-next c = search needs
+
+add-i : tie.Need-add-i Inv-loop μ-loop
+add-i c = search needs
+
+loop-less : tie.Need-loop-less Inv-loop μ-loop
+loop-less c = search needs
+
+loop-again : tie.Need-loop-again Inv-loop μ-loop
+loop-again c =
+    let start = c .before .before .before .before .before in
+    let a = start .args in
+    let i = c .before .before .before .before .loop .i in (
+      omega arith,
+      rw add-one
+          (ap₂ (λ chs ch. set chs i ch) (c .before .before .before .before .loop .inv .1) (rw (c .before .overridden .ensures) at (c .channel-after .ensures))
+          ∙ one-more (λ ch. channelTicks (overridden (a .now) ch) (a .ticks) (a .clock) ch) i (a .t2) blank (omega (arith, six start))),
+    )
+
+returns : tie.Need-returns Inv-loop μ-loop
+returns c =
+    let start = c .before .before in
+    let a = start .args in
+    c .before .loop .inv .1
+    ∙ all-of-them (λ ch. channelTicks (overridden (a .now) ch) (a .ticks) (a .clock) ch) (c .before .loop .i) (a .t2) (omega (arith, six start))
+
+pub channels-after-spec : {M : Type 1} → statement M
+channels-after-spec =
+    tie.close
+    (tie.spec
+    Inv-loop
+    μ-loop
+    loop-holds
+    mul-channel
+    array-copy-out-channel
+    overridden-requires
+    channel-after-requires
+    mul-next
+    array-set-from-next
+    add-i
+    loop-less
+    loop-again
+    returns)

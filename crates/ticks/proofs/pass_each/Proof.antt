@@ -1,0 +1,91 @@
+-- `pass_each` meets its contract: what the calls still to come lead to stays the same. Assumes nothing.
+use Prim.Native.Nat.{suc, _-_, _≤_, _<_}
+use mathlib.Core.Path.{_≡_, refl, sym, _∙_, ap}
+use mathlib.Core.Bool.{true, false, false≢true}
+use native.Mathlib.Omega.{arith}
+use native.Mathlib.Numerals.{add-one}
+use lib.ListN.{length, drop}
+use lib.Seq.{drop-cons, drop-length}
+use borrow.Author.Needs.{needs}
+use borrow.Author.Tests.{not-true, not-false}
+use Rattle.rules.specs.declared.Answer.{Answer}
+use Rattle.rules.specs.Valid.{validOf}
+use Rattle.rules.specs.Calls.{accepted, answer}
+use Rattle.rules.specs.Elapsed.{endOf, eachPassed}
+use Rattle.rules.proofs.Elapsed.{end-counted}
+use Rattle.ticks.proofs.pass_each.Statement.{statement}
+use Rattle.ticks.proofs.pass_each.Tie as tie
+
+abbrev Inv-loop : tie.InvT-loop
+Inv-loop elapsed last₀ made₀ last made = (made ≤ length elapsed) × (endOf last (drop made elapsed) ≡ endOf last₀ elapsed)
+
+abbrev μ-loop : tie.MeasureT-loop
+μ-loop elapsed last₀ made₀ last made = length elapsed - made
+
+valid-requires : tie.Need-valid-requires Inv-loop μ-loop
+valid-requires c κs = search needs
+
+returns : tie.Need-returns Inv-loop μ-loop
+unfolding eachPassed
+returns c =
+    let v : validOf (c .before .before .before .args .state) ≡ false = sym (c .before .valid .ensures) ∙ not-true _ (c .if1 .taken) in
+    (rw v refl, λ e. absurd (false≢true (sym v ∙ e)))
+
+loop-holds : tie.Need-loop-holds Inv-loop μ-loop
+loop-holds c = (omega arith, refl)
+
+mul-pass-ticks : tie.Need-mul-pass-ticks Inv-loop μ-loop
+mul-pass-ticks c = search needs
+
+shared-slice-read-pass-ticks : tie.Need-shared-slice-read-pass-ticks Inv-loop μ-loop
+shared-slice-read-pass-ticks c = search needs
+
+pass-ticks-requires : tie.Need-pass-ticks-requires Inv-loop μ-loop
+pass-ticks-requires c κs = search needs
+
+add-made : tie.Need-add-made Inv-loop μ-loop
+add-made c = search needs
+
+loop-less : tie.Need-loop-less Inv-loop μ-loop
+loop-less c = search needs
+
+loop-again : tie.Need-loop-again Inv-loop μ-loop
+unfolding endOf
+loop-again c =
+    let loop = c .before .before .before .before .loop in
+    let elapsed = c .before .before .before .before .before .before .before .before .args .elapsed .now in
+    let more : loop .made < length elapsed = omega arith in (
+      omega arith,
+      rw add-one
+          (ap (λ (r : Answer). endOf (r .state) (drop (suc (loop .made)) elapsed)) (c .before .pass-ticks .ensures .0)
+          ∙ sym (ap (endOf (loop .last)) (drop-cons elapsed (loop .made) 0 more)) ∙ loop .inv .1),
+    )
+
+returns-2 : tie.Need-returns-2 Inv-loop μ-loop
+unfolding endOf eachPassed
+returns-2 c =
+    let start = c .before .before .before .before .before .args in
+    let loop = c .before .loop in
+    let elapsed = start .elapsed .now in
+    let v : validOf (start .state) ≡ true = sym (c .before .before .before .valid .ensures) ∙ not-false _ (c .before .before .if1 .left) in
+    let all : loop .made ≡ length elapsed = omega arith in
+    let e : loop .last ≡ endOf (start .state) elapsed =
+    sym (ap (endOf (loop .last)) (ap (λ n. drop n elapsed) all ∙ drop-length elapsed)) ∙ loop .inv .1 in
+    (rw v (ap (answer accepted) e), λ _. ap (answer accepted) (e ∙ end-counted (start .state) elapsed v))
+
+pub pass-each-spec : {M : Type 1} → statement M
+pass-each-spec =
+    tie.close
+    (tie.spec
+    Inv-loop
+    μ-loop
+    valid-requires
+    returns
+    loop-holds
+    mul-pass-ticks
+    shared-slice-read-pass-ticks
+    pass-ticks-requires
+    add-made
+    loop-less
+    loop-again
+    returns-2)

@@ -1,0 +1,113 @@
+// Many ticks of one channel.
+ghost use mathlib.Core.Path.{_≡_};
+ghost use mathlib.Core.Bool.{false};
+ghost use Prim.Native.Nat.{_<_, _^_};
+ghost use Rattle.rules.specs.Registers.{spinCode};
+ghost use Rattle.rules.specs.Time.{spinTicks};
+ghost use Rattle.rules.specs.Tick.{periodOf, spinUpDue};
+ghost use Rattle.rules.proofs.Ramp.{approach};
+ghost use Rattle.rules.proofs.ChannelTicks.{channelTicks};
+use rules::Channel;
+
+const SPIN_TICKS: [u16; 4] = [0, 256, 512, 1024];
+
+fn spin_ticks(channel: Channel) -> u16
+    ensures { λ r. ⌜ r ≡ spinTicks (spinCode channel) ⌝ }
+{
+    let code = channel.config / 32 % 4;
+    SPIN_TICKS[code as usize]
+}
+
+fn spin_up_due(channel: Channel) -> bool
+    ensures { λ r. ⌜ r ≡ spinUpDue channel ⌝ }
+{
+    (channel.ramp == 0) & (0 < channel.target) & (0 < channel.config / 32 % 4)
+}
+
+// The periods of rate codes 1 to 7; code 0 has none, and its entry is not used.
+const PERIODS: [u32; 8] = [1, 1, 2, 4, 8, 16, 32, 64];
+
+fn period_of(channel: Channel) -> u32
+    ensures { λ r. ⌜ r ≡ periodOf channel ⌝ }
+{
+    let code = channel.dynamics / 4 % 8;
+    let period = PERIODS[code as usize];
+    if (channel.dynamics / 2 % 2 == 1) & (channel.target < channel.ramp) {
+        return 2 * period;
+    }
+    period
+}
+
+fn approach(x: u16, goal: u16, steps: u64) -> u16
+    ensures { λ r. ⌜ r ≡ approach x goal steps ⌝ }
+{
+    if x <= goal {
+        if steps < (goal - x) as u64 {
+            return x + steps as u16;
+        }
+        return goal;
+    }
+    if steps < (x - goal) as u64 {
+        return x - steps as u16;
+    }
+    goal
+}
+
+// A channel whose spin-up neither runs nor is due. The clock does not wrap here: a period divides its range, so the
+// multiples are the same, and 64 bits hold the sum.
+fn ramped(channel: Channel, clock: u64, ticks: u32) -> Channel
+    requires { ⌜ (channel .spin ≡ 0) × (spinUpDue channel ≡ false) × (clock < 2 ^ 34) ⌝ }
+    ensures { λ r. ⌜ r ≡ channelTicks false ticks clock channel ⌝ }
+{
+    let mut next = channel;
+    if channel.dynamics / 4 % 8 == 0 {
+        if ticks == 0 {
+            return channel;
+        }
+        next.ramp = channel.target;
+        return next;
+    }
+    let period = period_of(channel) as u64;
+    let steps = (clock + ticks as u64) / period - clock / period;
+    next.ramp = approach(channel.ramp, channel.target, steps);
+    next
+}
+
+// A channel whose spin-up does not run, and may be due: then one tick starts it.
+fn at_rest(channel: Channel, clock: u64, ticks: u32) -> Channel
+    requires { ⌜ (channel .spin ≡ 0) × (clock < 2 ^ 33) ⌝ }
+    ensures { λ r. ⌜ r ≡ channelTicks false ticks clock channel ⌝ }
+{
+    if ticks == 0 {
+        return channel;
+    }
+    if spin_up_due(channel) {
+        let time = spin_ticks(channel);
+        let left = ticks - 1;
+        let mut next = channel;
+        next.ramp = 511;
+        if left <= time as u32 {
+            next.spin = time - left as u16;
+            return next;
+        }
+        return ramped(next, clock + 1 + time as u64, left - time as u32);
+    }
+    ramped(channel, clock, ticks)
+}
+
+// Any channel, under an override or not.
+pub fn channel_after(held: bool, channel: Channel, clock: u32, ticks: u32) -> Channel
+    ensures { λ r. ⌜ r ≡ channelTicks held ticks clock channel ⌝ }
+{
+    if held {
+        return channel;
+    }
+    let spin = channel.spin;
+    let mut next = channel;
+    if ticks <= spin as u32 {
+        next.spin = spin - ticks as u16;
+        return next;
+    }
+    next.spin = 0;
+    at_rest(next, clock as u64 + spin as u64, ticks - spin as u32)
+}
