@@ -1,7 +1,7 @@
 // The passing of ticks. No loop counts ticks: each part of the state is worked out at once, whatever their number.
 ghost use mathlib.Core.Path.{_≡_};
 ghost use mathlib.Core.Bool.{true};
-ghost use Rattle.rules.specs.Calls.{accepted, answer};
+ghost use Rattle.rules.specs.Calls.{accepted, stateNotValid, answer};
 ghost use Rattle.rules.specs.Valid.{validOf};
 ghost use Rattle.rules.specs.Tick.{tick, iterate, ticksPassed};
 ghost use Rattle.rules.specs.Elapsed.{total, eachPassed};
@@ -89,16 +89,22 @@ fn passed(state: State, ticks: u32) -> State
     timed(state, free, clock, timer.idle, timer.expired, timer.status)
 }
 
+fn refused(state: State) -> Answer
+    ensures { λ r. ⌜ r ≡ answer stateNotValid state ⌝ }
+{
+    Answer {
+        refusal: STATE_NOT_VALID,
+        state: state,
+    }
+}
+
 // So many ticks pass at once: what the paper calls a jump.
 pub fn pass_ticks(state: State, ticks: u32) -> Answer
     ensures equal { λ r. ⌜ r ≡ ticksPassed state ticks ⌝ }
     ensures kept { λ r. ⌜ (validOf state ≡ true → validOf (r .state) ≡ true) ⌝ }
 {
     if !valid(state) {
-        return Answer {
-            refusal: STATE_NOT_VALID,
-            state: state,
-        };
+        return refused(state);
     }
     Answer {
         refusal: ACCEPTED,
@@ -112,10 +118,7 @@ pub fn pass_each(state: State, elapsed: &[u32]) -> Answer
     ensures counted { λ r. ⌜ (validOf state ≡ true → r ≡ answer accepted (iterate (total (now (elapsed .entry))) tick state)) ⌝ }
 {
     if !valid(state) {
-        return Answer {
-            refusal: STATE_NOT_VALID,
-            state: state,
-        };
+        return refused(state);
     }
     let mut last = state;
     let mut made = 0;

@@ -25,11 +25,15 @@ abbrev μ-loop : tie.MeasureT-loop
 valid-requires : tie.Need-valid-requires Inv-loop μ-loop
 valid-requires c κs = search needs
 
+refused-requires : tie.Need-refused-requires Inv-loop μ-loop
+refused-requires c κs = search needs
+
 returns : tie.Need-returns Inv-loop μ-loop
 unfolding eachPassed
 returns c =
-    let v : validOf (c .before .before .before .args .state) ≡ false = sym (c .before .valid .ensures) ∙ not-true _ (c .if1 .taken) in
-    (rw v refl, λ e. absurd (false≢true (sym v ∙ e)))
+    let v : validOf (c .before .before .before .before .args .state) ≡ false =
+    sym (c .before .before .valid .ensures) ∙ not-true _ (c .before .if1 .taken) in
+    (rw v (c .refused .ensures), λ e. absurd (false≢true (sym v ∙ e)))
 
 loop-holds : tie.Need-loop-holds Inv-loop μ-loop
 loop-holds c = (omega arith, refl)
@@ -80,6 +84,7 @@ pass-each-spec =
     Inv-loop
     μ-loop
     valid-requires
+    refused-requires
     returns
     loop-holds
     mul-pass-ticks
