@@ -1,17 +1,17 @@
 -- The fault byte: it is 0 just where no channel has its fault bit set, and it has a bit for each channel and no more.
-use Prim.Native.Nat.{ℕ, suc, _+_, _-_, _*_, _^_, _<_, _≤_}
+use Prim.Native.Nat.{ℕ, zero, suc, _+_, _-_, _*_, _/_, _%_, _^_, _<_, _≤_}
 use mathlib.Core.Path.{_≡_, refl, sym, _∙_, ap, subst}
 use mathlib.Core.Bool.{Bool, true, false, not, _||_}
 use mathlib.Core.List.{List, [], _∷_}
 use native.Mathlib.Omega.{arith}
-use native.Mathlib.Nat.{two-pow-succ}
+use native.Mathlib.Nat.{two-pow-succ, div-div-eq-div-mul, zero-div}
 use lib.Dec.{eqb}
 use lib.ListN.{length, getD, drop}
 use lib.Pow.{pow-mono}
 use lib.Seq.{drop-cons}
 use borrow.Author.Tests.{eq-eqb, ne-eqb, eqb-true, eqb-false}
 use Rattle.rules.specs.Types.{Channel}
-use Rattle.rules.specs.Basics.{some, flag}
+use Rattle.rules.specs.Basics.{some, bit, flag}
 use Rattle.rules.specs.State.{blank}
 use Rattle.rules.specs.Duty.{faultByte}
 use Rattle.rules.proofs.Tests.{flag-le}
@@ -47,3 +47,21 @@ fault-byte-front chs i h l =
   where
     twice : (x y : ℕ) → y + 2 * x ≡ x * 2 + y
     twice x y = omega arith
+
+-- the lowest bit of a number, and the bits above it
+bit-lowest : (on : Bool) (n : ℕ) → bit 0 (flag on + 2 * n) ≡ on
+bit-lowest true n = eq-eqb ((1 + 2 * n) / 2 ^ 0 % 2) 1 (omega arith)
+bit-lowest false n = let e : (0 + 2 * n) / 2 ^ 0 % 2 ≡ 1 → ⊥ = λ z. omega arith in ne-eqb ((0 + 2 * n) / 2 ^ 0 % 2) 1 e
+
+bit-above : (on : Bool) (n i : ℕ) → bit (suc i) (flag on + 2 * n) ≡ bit i n
+bit-above on n i =
+    let twice : 2 ^ suc i ≡ 2 * 2 ^ i = omega (arith, two-pow-succ i) in
+    let half : (flag on + 2 * n) / 2 ≡ n = omega (arith, flag-le on) in
+    ap (λ x. eqb (x % 2) 1)
+    (ap (λ d. (flag on + 2 * n) / d) twice ∙ sym (div-div-eq-div-mul (flag on + 2 * n) 2 (2 ^ i)) ∙ ap (λ x. x / 2 ^ i) half)
+
+-- bit i of the byte is the fault bit of the channel with index i
+pub fault-bit : (chs : List Channel) (i : ℕ) → bit i (faultByte chs) ≡ getD chs i blank .fault
+fault-bit [] i = ap (λ x. eqb (x % 2) 1) (zero-div (2 ^ i))
+fault-bit (ch ∷ chs) zero = bit-lowest (ch .fault) (faultByte chs)
+fault-bit (ch ∷ chs) (suc i) = bit-above (ch .fault) (faultByte chs) i ∙ fault-bit chs i

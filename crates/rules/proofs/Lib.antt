@@ -6,8 +6,12 @@ pub mod Each
 pub mod Faults
 pub mod Valid
 pub mod Kept
+pub mod Results
+pub mod FanFail
 pub mod Promises
 pub mod Duty
+pub mod Exact
+pub mod Revolutions
 pub mod Iterate
 pub mod Ramp
 pub mod ChannelTicks

@@ -1,7 +1,7 @@
 -- The promises of the calls, each from one equation: what a call gives, and that it keeps a valid state valid.
 use Prim.Native.Nat.{ℕ, _<_}
 use mathlib.Core.Path.{_≡_}
-use mathlib.Core.Bool.{true, false}
+use mathlib.Core.Bool.{Bool, true, false}
 use Rattle.rules.specs.Types.{State, Place, Answer, ReadAnswer}
 use Rattle.rules.specs.Map.{placeAt}
 use Rattle.rules.specs.Calls.{stateNotValid, answer, readAnswer}
@@ -9,7 +9,10 @@ use Rattle.rules.specs.Valid.{validOf}
 use Rattle.rules.specs.Start.{startOf}
 use Rattle.rules.specs.Write.{writeAt, writeOf}
 use Rattle.rules.specs.Read.{readAt, readOf}
+use Rattle.rules.specs.Tachometer.{resultOf}
+use Rattle.rules.specs.Pin.{pinOf}
 use Rattle.rules.proofs.Kept.{start-valid, write-valid, read-valid}
+use Rattle.rules.proofs.Results.{result-valid, pin-valid}
 
 abbrev pub StartPromise : ℕ → ℕ → ℕ → ℕ → Answer → Type 0
 StartPromise watchdog spinup target frequency r =
@@ -46,3 +49,11 @@ module _ (s : State) (a : ℕ) where
   write-answered b r p h v here e =
       let told : r ≡ writeOf s a b = rw (v, here) e in
       (told, λ w. rw told (write-valid s a v b h))
+
+module _ (s : State) where
+  pub result-promised : (n count : ℕ) (r : Answer) → r ≡ resultOf s n count →
+      (r ≡ resultOf s n count) × (validOf s ≡ true → validOf (r .state) ≡ true)
+  result-promised n count r e = (e, λ v. rw e (result-valid s v n count))
+
+  pub pin-promised : (high : Bool) (r : Answer) → r ≡ pinOf s high → (r ≡ pinOf s high) × (validOf s ≡ true → validOf (r .state) ≡ true)
+  pin-promised high r e = (e, λ v. rw e (pin-valid s v high))

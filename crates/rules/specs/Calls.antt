@@ -24,6 +24,14 @@ readOnly = 3
 abbrev pub configNotAllowed : ℕ
 configNotAllowed = 4
 
+-- "channel not 1 to 6"
+abbrev pub noSuchChannel : ℕ
+noSuchChannel = 5
+
+-- "speed: range code above 7, pulses not 1 to 4, count not 1 to 2,046"
+abbrev pub speedOutOfRange : ℕ
+speedOutOfRange = 6
+
 -- "start: a pin-set value out of range"
 abbrev pub startOutOfRange : ℕ
 startOutOfRange = 7

@@ -14,3 +14,8 @@ pub mod Write
 pub mod Read
 pub mod Tick
 pub mod Elapsed
+pub mod Tachometer
+pub mod FanFail
+pub mod Speed
+pub mod Reading
+pub mod Pin

@@ -13,12 +13,15 @@ standby r = bit 7 (r .control)
 abbrev pub watchdogCode : Registers → ℕ
 watchdogCode r = bits 2 1 (r .control)
 
--- 02h to 07h: 6:5 spin-up code, 4 monitor only
+-- 02h to 07h: 6:5 spin-up code, 4 monitor only, 3 tachometer enabled
 abbrev pub spinCode : Channel → ℕ
 spinCode ch = bits 6 5 (ch .config)
 
 abbrev pub monitorOnly : Channel → Bool
 monitorOnly ch = bit 4 (ch .config)
+
+abbrev pub tachometerEnabled : Channel → Bool
+tachometerEnabled ch = bit 3 (ch .config)
 
 -- 08h to 0Dh: 4:2 rate code, 1 asymmetric fall
 abbrev pub rateCode : Channel → ℕ
@@ -27,9 +30,16 @@ rateCode ch = bits 4 2 (ch .dynamics)
 abbrev pub asymmetric : Channel → Bool
 asymmetric ch = bit 1 (ch .dynamics)
 
--- 14h: 3:2 failed-fan option
+-- 13h: "bit 0 for channel 1 to bit 5 for channel 6"
+abbrev pub masked : Registers → ℕ → Bool
+masked r i = bit i (r .mask1)
+
+-- 14h: 3:2 failed-fan option, 1:0 queue code
 abbrev pub failedFanOption : Registers → ℕ
 failedFanOption r = bits 3 2 (r .options)
+
+abbrev pub queueCode : Registers → ℕ
+queueCode r = bits 1 0 (r .options)
 
 -- 50h to 5Bh: target count
 abbrev pub targetCount : Channel → ℕ

@@ -76,7 +76,7 @@ abbrev pub registers : ℕ → ℕ → ℕ → ℕ → ℕ → Registers
 registers control frequency mask2 mask1 options =
     record { control = control; frequency = frequency; mask2 = mask2; mask1 = mask1; options = options }
 
--- a state with other channels; with other registers; with another timer
+-- a state with other channels; with other registers; with another pin level; with another timer
 abbrev pub withChannels : State → List Channel → State
 withChannels s channels =
     record { channels = channels; registers = s .registers; pin = s .pin; start = s .start; timer = s .timer }
@@ -84,6 +84,10 @@ withChannels s channels =
 abbrev pub withRegisters : State → Registers → State
 withRegisters s r =
     record { channels = s .channels; registers = r; pin = s .pin; start = s .start; timer = s .timer }
+
+abbrev pub withPin : State → Bool → State
+withPin s pin =
+    record { channels = s .channels; registers = s .registers; pin = pin; start = s .start; timer = s .timer }
 
 abbrev pub withTimer : State → Timer → State
 withTimer s timer =

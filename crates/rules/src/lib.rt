@@ -116,6 +116,10 @@ pub const READ_ONLY: u8 = 3;
 
 pub const CONFIG_NOT_ALLOWED: u8 = 4;
 
+pub const NO_SUCH_CHANNEL: u8 = 5;
+
+pub const SPEED_OUT_OF_RANGE: u8 = 6;
+
 pub const START_OUT_OF_RANGE: u8 = 7;
 
 // What a call gives back.
@@ -128,5 +132,34 @@ pub struct Answer {
 pub struct ReadAnswer {
     pub refusal: u8,
     pub byte: u8,
+    pub state: State,
+}
+
+// What a FAN_FAIL query gives back: whether it is asserted, how many unmasked channels have failed, and the lowest of
+// them (1 to 6), or 0.
+pub struct FanFailAnswer {
+    pub refusal: u8,
+    pub asserted: bool,
+    pub failed: u32,
+    pub lowest: u32,
+    pub state: State,
+}
+
+// What the speed calculation gives back.
+pub enum Speed {
+    Rpm(u32),
+    Refused,
+}
+
+// The clock in seconds, and each output duty as a share of full speed.
+pub struct Reading {
+    pub seconds: f64,
+    pub shares: [f64; 6],
+}
+
+// What a reading gives back.
+pub struct ReadingAnswer {
+    pub refusal: u8,
+    pub reading: Reading,
     pub state: State,
 }

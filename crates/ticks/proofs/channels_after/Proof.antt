@@ -1,19 +1,18 @@
 -- `channels_after` meets its contract. The invariant: the first i channels have had their ticks. Assumes nothing.
-use Prim.Native.Nat.{_-_, _≤_}
-use mathlib.Core.Path.{_≡_, refl, _∙_, ap₂}
-use native.Mathlib.Numerals.{add-one}
+use Prim.Native.Nat.{_-_}
+use mathlib.Core.Path.{_≡_, refl}
 use native.Mathlib.Omega.{arith}
-use lib.ListN.{length, set}
+use lib.ListN.{length}
 use borrow.Author.Needs.{needs}
 use Rattle.rules.specs.State.{blank}
 use Rattle.rules.specs.Tick.{overridden}
-use Rattle.rules.proofs.Each.{firstEach, one-more, all-of-them}
+use Rattle.rules.proofs.Each.{Filled, filled-none, filled-more, filled-all}
 use Rattle.rules.proofs.ChannelTicks.{channelTicks}
 use Rattle.ticks.proofs.channels_after.Statement.{statement}
 use Rattle.ticks.proofs.channels_after.Tie as tie
 
 abbrev Inv-loop : tie.InvT-loop
-Inv-loop now clock ticks channels next₀ i₀ next i = (i ≤ 6) × (next ≡ firstEach i (λ ch. channelTicks (overridden now ch) ticks clock ch) channels)
+Inv-loop now clock ticks channels next₀ i₀ next i = Filled (λ ch. channelTicks (overridden now ch) ticks clock ch) channels next i
 
 abbrev μ-loop : tie.MeasureT-loop
 μ-loop now clock ticks channels next₀ i₀ next i = 6 - i
@@ -22,7 +21,7 @@ six : (c : tie.Start Inv-loop μ-loop) → length (c .args .t2) ≡ 6
 six c = search needs
 
 loop-holds : tie.Need-loop-holds Inv-loop μ-loop
-loop-holds c = (search needs, refl)
+loop-holds c = filled-none _ (c .args .t2) (c .args .t2) refl
 
 mul-channel : tie.Need-mul-channel Inv-loop μ-loop
 mul-channel c = omega arith
@@ -50,21 +49,14 @@ loop-less c = search needs
 
 loop-again : tie.Need-loop-again Inv-loop μ-loop
 loop-again c =
-    let start = c .before .before .before .before .before in
-    let a = start .args in
-    let i = c .before .before .before .before .loop .i in (
-      omega arith,
-      rw add-one
-          (ap₂ (λ chs ch. set chs i ch) (c .before .before .before .before .loop .inv .1) (rw (c .before .overridden .ensures) at (c .channel-after .ensures))
-          ∙ one-more (λ ch. channelTicks (overridden (a .now) ch) (a .ticks) (a .clock) ch) i (a .t2) blank (omega (arith, six start))),
-    )
+    let l = c .before .before .before .before in
+    filled-more _ (l .before .args .t2) (l .loop .next) (l .loop .i) _ blank (l .loop .inv) (omega (arith, six (l .before)))
+    (rw (c .before .overridden .ensures) at (c .channel-after .ensures))
 
 returns : tie.Need-returns Inv-loop μ-loop
 returns c =
     let start = c .before .before in
-    let a = start .args in
-    c .before .loop .inv .1
-    ∙ all-of-them (λ ch. channelTicks (overridden (a .now) ch) (a .ticks) (a .clock) ch) (c .before .loop .i) (a .t2) (omega (arith, six start))
+    filled-all _ (start .args .t2) (c .before .loop .next) (c .before .loop .i) (omega (arith, six start)) (c .before .loop .inv)
 
 pub channels-after-spec : {M : Type 1} → statement M
 channels-after-spec =

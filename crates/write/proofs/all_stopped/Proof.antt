@@ -1,18 +1,17 @@
 -- `write::all_stopped` meets its contract. The invariant: the first i channels stand still, the others are as they were. Assumes nothing.
-use Prim.Native.Nat.{_-_, _≤_}
-use mathlib.Core.Path.{_≡_, refl, _∙_, ap₂}
-use native.Mathlib.Numerals.{add-one}
+use Prim.Native.Nat.{_-_}
+use mathlib.Core.Path.{_≡_, refl}
 use native.Mathlib.Omega.{arith}
-use lib.ListN.{length, set}
+use lib.ListN.{length}
 use borrow.Author.Needs.{needs}
 use Rattle.rules.specs.State.{blank}
 use Rattle.rules.specs.Write.{stopped}
-use Rattle.rules.proofs.Each.{firstEach, one-more, all-of-them}
+use Rattle.rules.proofs.Each.{Filled, filled-none, filled-more, filled-all}
 use Rattle.write.proofs.all_stopped.Statement.{statement}
 use Rattle.write.proofs.all_stopped.Tie as tie
 
 abbrev Inv-loop : tie.InvT-loop
-Inv-loop channels next₀ i₀ next i = (i ≤ 6) × (next ≡ firstEach i stopped channels)
+Inv-loop channels next₀ i₀ next i = Filled stopped channels next i
 
 abbrev μ-loop : tie.MeasureT-loop
 μ-loop channels next₀ i₀ next i = 6 - i
@@ -21,7 +20,7 @@ six : (c : tie.Start Inv-loop μ-loop) → length (c .args .t1) ≡ 6
 six c = search needs
 
 loop-holds : tie.Need-loop-holds Inv-loop μ-loop
-loop-holds c = (search needs, refl)
+loop-holds c = filled-none stopped (c .args .t1) (c .args .t1) refl
 
 mul-stopped : tie.Need-mul-stopped Inv-loop μ-loop
 mul-stopped c = omega arith
@@ -46,18 +45,13 @@ loop-less c = search needs
 
 loop-again : tie.Need-loop-again Inv-loop μ-loop
 loop-again c =
-    let start = c .before .before .before .before in
-    let i = c .before .before .before .loop .i in (
-      omega arith,
-      rw add-one
-          (ap₂ (λ chs ch. set chs i ch) (c .before .before .before .loop .inv .1) (c .stopped .ensures)
-          ∙ one-more stopped i (start .args .t1) blank (omega (arith, six start))),
-    )
+    let l = c .before .before .before in
+    filled-more stopped (l .before .args .t1) (l .loop .next) (l .loop .i) _ blank (l .loop .inv) (omega (arith, six (l .before))) (c .stopped .ensures)
 
 returns : tie.Need-returns Inv-loop μ-loop
 returns c =
     let start = c .before .before in
-    c .before .loop .inv .1 ∙ all-of-them stopped (c .before .loop .i) (start .args .t1) (omega (arith, six start))
+    filled-all stopped (start .args .t1) (c .before .loop .next) (c .before .loop .i) (omega (arith, six start)) (c .before .loop .inv)
 
 pub all-stopped-spec : {M : Type 1} → statement M
 all-stopped-spec =

@@ -1,0 +1,16 @@
+-- `tachometer::bad_result` meets its contract. Assumes nothing.
+use borrow.Author.Needs.{needs}
+use Rattle.tachometer.proofs.bad_result.Statement.{statement}
+use Rattle.tachometer.proofs.bad_result.Tie as tie
+
+one-more-requires : tie.Need-one-more-requires
+one-more-requires c κs = search needs
+
+with-results-requires : tie.Need-with-results-requires
+with-results-requires c κs = search needs
+
+returns : tie.Need-returns
+returns c = rw (c .before .before .one-more .ensures) at (c .with-results .ensures)
+
+pub bad-result-spec : {M : Type 1} → statement M
+bad-result-spec = tie.close (tie.spec one-more-requires with-results-requires returns)

@@ -1,0 +1,83 @@
+-- `tachometer::take_result` meets its contract. Assumes nothing.
+use Prim.Native.Nat.{_≤_}
+use mathlib.Core.Path.{sym, _∙_}
+use native.Mathlib.Omega.{arith}
+use borrow.Author.Tests.{not-false}
+use Rattle.rules.specs.Tachometer.{resultOf}
+use Rattle.rules.proofs.Results.{channel-in-range}
+use Rattle.rules.proofs.Promises.{result-promised}
+use borrow.Author.Needs.{needs}
+use Rattle.tachometer.proofs.take_result.Statement.{statement}
+use Rattle.tachometer.proofs.take_result.Tie as tie
+
+in-range : (c : tie.Else2) → (1 ≤ c .before .before .before .before .args .channel) × (c .before .before .before .before .args .channel ≤ 6)
+in-range c = channel-in-range _ (sym (c .before .is-channel .ensures) ∙ not-false _ (c .if2 .left))
+
+valid-requires : tie.Need-valid-requires
+valid-requires c κs = search needs
+
+answered-requires : tie.Need-answered-requires
+answered-requires c κs = search needs
+
+returns : tie.Need-returns
+unfolding resultOf
+returns c =
+    let start = c .before .before .before in
+    result-promised (start .args .state) (start .args .channel) (start .args .count) _
+    (simp (rw (c .before .before .valid .ensures) at (c .before .if1 .taken)) (c .answered .ensures))
+
+is-channel-requires : tie.Need-is-channel-requires
+is-channel-requires c κs = search needs
+
+answered-requires-2 : tie.Need-answered-requires-2
+answered-requires-2 c κs = search needs
+
+returns-2 : tie.Need-returns-2
+unfolding resultOf
+returns-2 c =
+    let start = c .before .before .before .before .before in
+    result-promised (start .args .state) (start .args .channel) (start .args .count) _
+    (simp (
+      rw (c .before .before .before .before .valid .ensures) at (c .before .before .before .if1 .left),
+      rw (c .before .before .is-channel .ensures) at (c .before .if2 .taken),
+    )
+    (c .answered2 .ensures))
+
+sub-i : tie.Need-sub-i
+sub-i c = in-range c .0
+
+cast-i : tie.Need-cast-i
+cast-i c = search needs
+
+with-result-requires : tie.Need-with-result-requires
+with-result-requires c κs = omega (arith, in-range c .0, in-range c .1)
+
+answered-requires-3 : tie.Need-answered-requires-3
+answered-requires-3 c κs = search needs
+
+returns-3 : tie.Need-returns-3
+unfolding resultOf
+returns-3 c =
+    let start = c .before .before .before .before .before .before in
+    result-promised (start .args .state) (start .args .channel) (start .args .count) _
+    (simp (
+      rw (c .before .before .before .before .before .valid .ensures) at (c .before .before .before .before .if1 .left),
+      rw (c .before .before .before .is-channel .ensures) at (c .before .before .if2 .left),
+    )
+    (rw (c .before .with-result .ensures) at (c .answered3 .ensures)))
+
+pub take-result-spec : {M : Type 1} → statement M
+take-result-spec =
+    tie.close
+    (tie.spec
+    valid-requires
+    answered-requires
+    returns
+    is-channel-requires
+    answered-requires-2
+    returns-2
+    sub-i
+    cast-i
+    with-result-requires
+    answered-requires-3
+    returns-3)
