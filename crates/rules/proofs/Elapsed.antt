@@ -106,6 +106,22 @@ free-duty k ch free z = by-override (overrideOf k ch) free
     by-override None e = rw (le-ltb 0 (ch .spin) (omega arith)) refl
     by-override (Duty d) e = absurd (false≢true (sym e))
 
+-- a channel with no override in force, k ticks that the watchdog does not end later
+module _ (s : State) (i : ℕ) (exists : i < length (s .channels)) (free : overridden (conditionsOf s) (channel s i) ≡ false) (k : ℕ) where
+  pub channel-ahead : channel (ahead s k) i ≡ channelTicks false k (s .timer .clock) (channel s i)
+  unfolding ahead channelsAfter
+  channel-ahead =
+      map-at (λ x. channelTicks (overridden (conditionsOf s) x) k (s .timer .clock) x) (s .channels) i blank blank exists
+      ∙ ap (λ held. channelTicks held k (s .timer .clock) (channel s i)) free
+
+  pub duty-ahead : (ramp spin : ℕ) → channelTicks false k (s .timer .clock) (channel s i) ≡ withMotion (channel s i) ramp spin → spin ≡ 0 →
+      dutyAt (ahead s k) i ≡ ramp
+  unfolding overrideOf
+  duty-ahead ramp spin e z =
+      ap (λ cond. outputDuty cond (channel (ahead s k) i)) (ahead-conditions s k)
+      ∙ ap (outputDuty (conditionsOf s)) (channel-ahead ∙ e)
+      ∙ free-duty (conditionsOf s) (withMotion (channel s i) ramp spin) free z
+
 module _ (s : State) (i : ℕ) (c : Settles s i) where
   ch : Channel
   ch = channel s i
@@ -133,20 +149,11 @@ module _ (s : State) (i : ℕ) (c : Settles s i) where
         ticks-ahead s k (λ on. let l = counting-live s on in
         omega (arith, c .none-coming (eqb-false (watchdogCode (s .registers)) 0 (l .0)) (l .1)))
 
-    ramped : channel (ahead s k) i ≡ withMotion (channel s i) (rampedBy (s .timer .clock) k (channel s i)) (channel s i .spin)
-    unfolding ahead channelsAfter
-    ramped =
-        map-at (λ x. channelTicks (overridden (conditionsOf s) x) k (s .timer .clock) x) (s .channels) i blank blank exists
-        ∙ ap (λ held. channelTicks held k (s .timer .clock) (channel s i)) (c .not-overridden)
-        ∙ ticks-ramp (s .timer .clock) (channel s i) (c .not-running) (c .not-due) k (c .has-rate)
-
     duty-then : dutyAt (iterate k tick s) i ≡ rampedBy (s .timer .clock) k (channel s i)
-    unfolding overrideOf
     duty-then =
         ap (λ x. dutyAt x i) short
-        ∙ ap (λ cond. outputDuty cond (channel (ahead s k) i)) (ahead-conditions s k)
-        ∙ ap (outputDuty (conditionsOf s)) ramped
-        ∙ free-duty (conditionsOf s) _ (c .not-overridden) (c .not-running)
+        ∙ duty-ahead s i exists (c .not-overridden) k _ (channel s i .spin)
+        (ticks-ramp (s .timer .clock) (channel s i) (c .not-running) (c .not-due) k (c .has-rate)) (c .not-running)
 
   at-target : (elapsed : List ℕ) → total elapsed ≡ settlingTicks (s .timer .clock) (channel s i) → dutyAt (endOf s elapsed) i ≡ wanted (channel s i)
   unfolding ch

@@ -1,7 +1,7 @@
 -- A number divided by 512 as the machine divides is exact, and so is every number of a reading.
 use Prim.Native.Nat.{ℕ, _-_, _+_, _*_, _^_, _<_, _≤_}
 use mathlib.Core.Path.{_≡_, refl, sym, _∙_, ap}
-use mathlib.Core.Bool.{Bool, true, false}
+use mathlib.Core.Bool.{true, false}
 use mathlib.Core.List.{List, map, map-map}
 use native.Mathlib.Nat.{mul-comm, mul-assoc, mul-pos, one-mul, lt-of-lt-of-le, le-of-lt}
 use native.Mathlib.Omega.{arith}

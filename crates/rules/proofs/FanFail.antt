@@ -1,7 +1,7 @@
 -- The FAN_FAIL query by counts of bits: on the fault byte with the mask removed, the ones are the failed channels, and the zeros
 -- below the lowest one are the channels below the lowest of them.
 use Prim.Native.Nat.{ℕ, _+_, _-_, _<_}
-use mathlib.Core.Path.{_≡_, refl, sym, _∙_, ap, ap₂}
+use mathlib.Core.Path.{_≡_, refl, sym, ap}
 use mathlib.Core.Bool.{Bool, true, false, not, _&&_, Bool·beq}
 use mathlib.Core.List.{List, [], _∷_, map}
 use native.Mathlib.Omega.{arith}
@@ -9,7 +9,7 @@ use lib.Bits.{bitAnd}
 use lib.Count.{ones, trailingZeros}
 use lib.Dec.{eqb}
 use lib.ListN.{length}
-use borrow.Author.Tests.{eqb-true, eq-eqb, ne-eqb}
+use borrow.Author.Tests.{eqb-true, ne-eqb}
 use Rattle.rules.specs.Types.{State, FanFailAnswer}
 use Rattle.rules.specs.Basics.{if_then_else_, some, bit}
 use Rattle.rules.specs.Registers.{maskKept}

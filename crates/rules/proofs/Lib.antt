@@ -7,6 +7,7 @@ pub mod Faults
 pub mod Valid
 pub mod Kept
 pub mod Results
+pub mod Queue
 pub mod FanFail
 pub mod Promises
 pub mod Duty
@@ -18,3 +19,4 @@ pub mod ChannelTicks
 pub mod TickValid
 pub mod StateTicks
 pub mod Elapsed
+pub mod Trials

@@ -1,20 +1,19 @@
 -- A tachometer result and a pin level keep a valid state valid and leave the watchdog alone; and when a row of bad results sets the fault bit.
-use Prim.Native.Nat.{ℕ, suc, _+_, _-_, _<_, _≤_, min}
-use mathlib.Core.Path.{_≡_, refl, sym, _∙_, ap}
-use mathlib.Core.Bool.{Bool, true, false, not, _||_, or-true}
-use mathlib.Core.List.{List, [], _∷_}
+use Prim.Native.Nat.{ℕ, _+_, _-_, _<_, _≤_, min}
+use mathlib.Core.Path.{_≡_, refl}
+use mathlib.Core.Bool.{Bool, true, not}
 use native.Mathlib.Omega.{arith}
 use lib.Dec.{leb, ltb}
 use lib.ListN.{length}
-use borrow.Author.Tests.{lt-ltb, le-leb, lt-leb, leb-true, leb-false, eqb-true}
+use borrow.Author.Tests.{lt-ltb, le-leb, leb-true}
 use Rattle.rules.specs.Types.{Channel, State, Conditions, Answer}
 use Rattle.rules.specs.State.{channel, withResults, withPin}
 use Rattle.rules.specs.Registers.{standby, tachometerEnabled, queueCode}
 use Rattle.rules.specs.Duty.{conditionsOf}
 use Rattle.rules.specs.Valid.{validChannel, validOf}
-use Rattle.rules.specs.Tachometer.{queueLength, storedCount, judged, isBad, badResult, resultTaken, isChannel, resultOf}
+use Rattle.rules.specs.Tachometer.{queueLength, storedCount, judged, isBad, resultTaken, isChannel, resultOf}
 use Rattle.rules.specs.Pin.{pinOf}
-use Rattle.rules.proofs.Tests.{by-test, choice, and-left, and-right, and-both, allBelow, all-below, every-at, every-set}
+use Rattle.rules.proofs.Tests.{choice, and-left, and-right, and-both, every-set}
 use Rattle.rules.proofs.Valid.{parts, valid-of-parts, ChannelParts, parts-of-channel, valid-of-channel-parts}
 
 -- ---- validity
@@ -87,45 +86,3 @@ unfolding pinOf
 pin-no-access s high =
     choice (λ (x : Answer). NoAccess s (x .state)) (validOf s) _ _
     (λ e. record { timer = refl; registers = refl; start = refl }) (λ e. stays s)
-
--- ---- a row of bad results, for every queue code
-
-abbrev pub badResults : ℕ → List ℕ → Channel → Channel
-badResults most [] ch = ch
-badResults most (stored ∷ more) ch = badResults most more (badResult most stored ch)
-
-fault-stays : (most : ℕ) (counts : List ℕ) (ch : Channel) → ch .fault ≡ true → badResults most counts ch .fault ≡ true
-fault-stays most [] ch e = e
-fault-stays most (stored ∷ more) ch e = fault-stays most more (badResult most stored ch) (rw e)
-
--- no queue is longer than the queue count can grow, and every code has one
-pub queue-length-le : (code : ℕ) → queueLength code ≤ 6
-unfolding queueLength
-queue-length-le code = leb-true _ 6 (every-at (λ most. leb most 6) (1 ∷ 2 ∷ 4 ∷ 6 ∷ []) code 0 refl refl)
-
-pub queue-length-pos : (code : ℕ) → code < 4 → 0 < queueLength code
-unfolding queueLength
-queue-length-pos code h = leb-true 1 _ (all-below 4 (λ k. leb 1 (queueLength k)) refl code h)
-
--- from a queue count below the queue length, the fault bit comes with the result that brings the count to that length
-pub fault-after : (code : ℕ) (counts : List ℕ) (ch : Channel) → ch .fault ≡ false → ch .queue < queueLength code →
-    badResults (queueLength code) counts ch .fault ≡ leb (queueLength code) (ch .queue + length counts)
-fault-after code [] ch e h = e ∙ sym (lt-leb (queueLength code) (ch .queue + 0) (omega arith))
-fault-after code (stored ∷ more) ch e h =
-    by-test (leb most (ch .queue + 1))
-    (λ full. fault-stays most more next (rw e (le-leb most _ (omega (arith, short, leb-true most _ full))))
-    ∙ sym (le-leb most _ (omega (arith, leb-true most _ full))))
-    (λ below. fault-after code more next (rw e (lt-leb most _ (omega (arith, leb-false most _ below)))) (omega (arith, short, leb-false most _ below))
-    ∙ ap (leb most) (moved (ch .queue) (length more) (omega (arith, short, leb-false most _ below))))
-  where
-    most : ℕ
-    most = queueLength code
-
-    next : Channel
-    next = badResult most stored ch
-
-    short : most ≤ 6
-    short = queue-length-le code
-
-    moved : (q n : ℕ) → q < 6 → min (q + 1) 6 + n ≡ q + suc n
-    moved q n l = omega arith

@@ -19,3 +19,4 @@ pub mod FanFail
 pub mod Speed
 pub mod Reading
 pub mod Pin
+pub mod Trials

@@ -1,0 +1,181 @@
+//! What a scenario's calls are made with: addresses, bytes, counts and spans that lie where the
+//! paper draws a line, and some that lie anywhere. Only inputs are chosen here, no answers.
+
+use crate::model::{
+    carried, period, spin_up_ticks, watchdog_limit, Channel, State, CHANNELS, MONITOR_ONLY,
+};
+use crate::random::Random;
+
+pub fn address(random: &mut Random) -> u32 {
+    let index = random.below(CHANNELS as u32);
+    let any = random.any();
+    let any_carried = carried_address(random);
+    // The lower byte or the lower half alone would be a carried register.
+    let far = random.pick(&[0x100, 0x300, 0x8000, 0x1_0000, 0x8000_0000]) + any_carried;
+    let neighbour = random.pick(&[
+        0x0E, 0x0F, 0x15, 0x16, 0x17, 0x3C, 0x3D, 0x3F, 0x4C, 0x4F, 0x5C, 0x5F, 0x66, 0x67, 0xFF,
+        0x100, 0x101,
+    ]);
+    random.weighted(&[
+        (14, any_carried),
+        (6, 0x00),
+        (8, 0x02 + index),
+        (4, 0x08 + index),
+        (2, 0x11),
+        (2, 0x12),
+        (2, 0x13),
+        (3, 0x14),
+        (3, 0x30 + 2 * index),
+        (4, 0x40 + 2 * index),
+        (4, 0x41 + 2 * index),
+        (3, 0x50 + 2 * index),
+        (3, neighbour),
+        (2, far),
+        (1, any),
+    ])
+}
+
+fn carried_address(random: &mut Random) -> u32 {
+    loop {
+        let address = random.below(0x66);
+        if carried(address) {
+            return address;
+        }
+    }
+}
+
+pub fn byte_for(random: &mut Random, address: u32) -> u8 {
+    let any = random.byte();
+    let edge = random.pick(&[0x00, 0xFF, 0x80, 0x01, 0x7F]);
+    match address {
+        0x00 => control_byte(random),
+        0x02..=0x07 => configuration_byte(random),
+        0x13 => random.pick(&[0x00, 0x00, 0x00, 0xC0, 0x01, 0x20, 0x3F, any]),
+        0x14 => any & 0xF3 | random.pick(&[0x00, 0x04, 0x04, 0x04, 0x08, 0x0C]),
+        _ => random.weighted(&[(2, any), (1, edge)]),
+    }
+}
+
+/// Watchdog codes with the other bits on and off; standby, reset or both in every second byte.
+fn control_byte(random: &mut Random) -> u8 {
+    let code = random.below(4) as u8;
+    let others = random.pick(&[0x00, 0x20, 0x28, 0x39, 0x11]);
+    let strong = random.pick(&[0x80, 0x80, 0xA0, 0xAF, 0x40, 0xC0, 0xFF]);
+    random.weighted(&[
+        (2, others | code << 1),
+        (1, strong),
+        (1, strong | code << 1),
+    ])
+}
+
+/// Spin-up codes with the tachometer mostly on; monitor only and refused bits now and then.
+fn configuration_byte(random: &mut Random) -> u8 {
+    let code = random.below(4) as u8;
+    let bits = random.pick(&[0x00, 0x08, 0x08, 0x0A]);
+    let accepted = code << 5 | bits;
+    let refused = random.pick(&[0x80, 0x04, 0x01, 0x85, 0xFF]);
+    random.weighted(&[
+        (6, accepted),
+        (1, accepted | MONITOR_ONLY),
+        (2, accepted | refused),
+    ])
+}
+
+/// A value for `start`: in range, or wrong in such a way that its low half may be in range.
+pub fn pin_set_value(random: &mut Random, wrong: bool, highest: u32) -> u32 {
+    let between = random.between(0, highest);
+    if wrong {
+        random.pick(&[highest + 1, highest + 2, 65_536 + between, u32::MAX])
+    } else {
+        random.pick(&[0, highest, between, between])
+    }
+}
+
+/// A tachometer count, mostly at or beside the channel's target count.
+pub fn count_about(random: &mut Random, channel: &Channel) -> u32 {
+    let target = u32::from(channel.target_count);
+    let any = random.any();
+    random.weighted(&[
+        (4, target.saturating_sub(1)),
+        (6, target),
+        (12, target + 1),
+        (1, 0),
+        (2, 2046),
+        (3, 2047),
+        (2, 2048),
+        (2, 5000),
+        (2, 65_536 + target),
+        (1, u32::MAX),
+        (1, any % 2048),
+        (1, any),
+    ])
+}
+
+/// The number, or one beside it. Below 0 it is the longest span.
+fn near(random: &mut Random, number: u32) -> u32 {
+    match random.below(3) {
+        0 => number.wrapping_sub(1),
+        1 => number,
+        _ => number.wrapping_add(1),
+    }
+}
+
+/// A number of ticks of any kind.
+pub fn span(random: &mut Random, state: &State) -> u32 {
+    let channel = random.pick(&state.channels);
+    match random.below(16) {
+        0..=1 => random.below(4),
+        2..=3 => random.between(1, 40),
+        4..=5 => random.between(1, 5000),
+        6..=8 => span_of_ramp(random, &channel),
+        9..=10 => span_of_spin_up(random, &channel),
+        11..=12 => span_to_expiry(random, state),
+        13 => random.between(5000, 70_000),
+        14 => near(random, state.clock.wrapping_neg()),
+        _ => {
+            let any = random.any();
+            random.pick(&[any, u32::MAX, u32::MAX - 1, 1 << 31, 1 << 16])
+        }
+    }
+}
+
+/// Some steps of the channel's ramp, about as many as it has to go, or far more.
+pub fn span_of_ramp(random: &mut Random, channel: &Channel) -> u32 {
+    if channel.rate_code() == 0 {
+        return random.below(3);
+    }
+    let step = period(channel);
+    let distance = u32::from(channel.ramp.abs_diff(channel.target));
+    match random.below(8) {
+        0 => random.below(4),
+        1 => near(random, step),
+        2..=3 => {
+            let steps = random.between(1, 40);
+            near(random, steps * step)
+        }
+        4..=6 => (distance * step + random.below(2 * step + 1)).saturating_sub(step),
+        _ => random.between(1, 70_000),
+    }
+}
+
+/// To the end of a running spin-up, through one that is due, or beside a coded length.
+pub fn span_of_spin_up(random: &mut Random, channel: &Channel) -> u32 {
+    let coded = spin_up_ticks(random.between(1, 3) as u8);
+    let whole = spin_up_ticks(channel.spin_up_code());
+    match random.below(6) {
+        0 => random.below(4),
+        1 => near(random, coded.into()),
+        2 if whole > 0 => near(random, u32::from(whole) + 1),
+        _ if channel.spin > 0 => near(random, channel.spin.into()),
+        _ => random.between(1, 1100),
+    }
+}
+
+/// Exactly to the expiry, one tick short of it or beyond it, or beside any of the limits.
+pub fn span_to_expiry(random: &mut Random, state: &State) -> u32 {
+    let some_limit = random.pick(&[2560, 5120, 15_360]);
+    match watchdog_limit(state.watchdog_code()) {
+        Some(limit) if random.chance(3, 4) => near(random, limit.saturating_sub(state.idle).into()),
+        _ => near(random, some_limit),
+    }
+}

@@ -1,0 +1,260 @@
+//! The console's language: a call as a word with numbers, and the answer line that the model
+//! expects for it.
+
+use crate::model::{self, Billionths, Channel, State, ACCEPTED};
+
+#[derive(Clone, Copy, Debug)]
+pub enum Call {
+    Start {
+        watchdog: u32,
+        spin_up: u32,
+        target: u32,
+        frequency: u8,
+    },
+    Write {
+        address: u32,
+        byte: u8,
+    },
+    Read {
+        address: u32,
+    },
+    Ticks {
+        count: u32,
+    },
+    Tachometer {
+        channel: u32,
+        count: u32,
+    },
+    Pin {
+        level: bool,
+    },
+    Cabin,
+    FanFail,
+    Speed {
+        range_code: u32,
+        pulses: u32,
+        count: u32,
+    },
+    Dump,
+    Load(State),
+}
+
+impl Call {
+    pub fn word(&self) -> &'static str {
+        match self {
+            Call::Start { .. } => "start",
+            Call::Write { .. } => "write",
+            Call::Read { .. } => "read",
+            Call::Ticks { .. } => "ticks",
+            Call::Tachometer { .. } => "tach",
+            Call::Pin { .. } => "pin",
+            Call::Cabin => "cabin",
+            Call::FanFail => "fanfail",
+            Call::Speed { .. } => "speed",
+            Call::Dump => "dump",
+            Call::Load(_) => "load",
+        }
+    }
+
+    /// The numbers that follow the word on its line.
+    pub fn numbers(&self) -> Vec<u32> {
+        match *self {
+            Call::Start {
+                watchdog,
+                spin_up,
+                target,
+                frequency,
+            } => vec![watchdog, spin_up, target, u32::from(frequency)],
+            Call::Write { address, byte } => vec![address, u32::from(byte)],
+            Call::Read { address } => vec![address],
+            Call::Ticks { count } => vec![count],
+            Call::Tachometer { channel, count } => vec![channel, count],
+            Call::Pin { level } => vec![u32::from(level)],
+            Call::Speed {
+                range_code,
+                pulses,
+                count,
+            } => vec![range_code, pulses, count],
+            Call::Load(state) => state_numbers(&state),
+            Call::Cabin | Call::FanFail | Call::Dump => vec![],
+        }
+    }
+
+    /// Makes the call on the state in hand and gives its refusal number, 0 when accepted, and its
+    /// answer line.
+    pub fn make(&self, state: &mut State) -> (u32, String) {
+        match *self {
+            Call::Start {
+                watchdog,
+                spin_up,
+                target,
+                frequency,
+            } => changed(state, model::start(watchdog, spin_up, target, frequency)),
+            Call::Write { address, byte } => changed(state, model::write(state, address, byte)),
+            Call::Read { address } => {
+                let (refusal, byte, next) = model::read(state, address);
+                *state = next;
+                (refusal, format!("{refusal} {byte}"))
+            }
+            Call::Ticks { count } => changed(state, model::ticks(state, count)),
+            Call::Tachometer { channel, count } => {
+                changed(state, model::tachometer(state, channel, count))
+            }
+            Call::Pin { level } => changed(state, model::pin(state, level)),
+            Call::Cabin => cabin_answer(state),
+            Call::FanFail => fan_fail_answer(state),
+            Call::Speed {
+                range_code,
+                pulses,
+                count,
+            } => {
+                let (refusal, speed) = model::speed(range_code, pulses, count);
+                (refusal, format!("{refusal} {speed}"))
+            }
+            Call::Dump => (ACCEPTED, decimal_words(&state_numbers(state))),
+            Call::Load(given) => {
+                *state = given;
+                (ACCEPTED, "ok".to_string())
+            }
+        }
+    }
+}
+
+/// The answer of a call that gives only a refusal and a state back.
+fn changed(state: &mut State, (refusal, next): (u32, State)) -> (u32, String) {
+    *state = next;
+    (refusal, refusal.to_string())
+}
+
+fn cabin_answer(state: &State) -> (u32, String) {
+    let (refusal, seconds, shares) = model::cabin(state);
+    let mut line = format!("{refusal} {}", nine_decimals(seconds));
+    for share in shares {
+        line.push(' ');
+        line.push_str(&nine_decimals(share));
+    }
+    (refusal, line)
+}
+
+fn nine_decimals(number: Billionths) -> String {
+    format!("{}.{:09}", number / 1_000_000_000, number % 1_000_000_000)
+}
+
+fn fan_fail_answer(state: &State) -> (u32, String) {
+    let (refusal, asserted, failed, lowest) = model::fan_fail(state);
+    let asserted = u32::from(asserted);
+    (refusal, format!("{refusal} {asserted} {failed} {lowest}"))
+}
+
+fn decimal_words(numbers: &[u32]) -> String {
+    let words: Vec<String> = numbers.iter().map(u32::to_string).collect();
+    words.join(" ")
+}
+
+/// The state's numbers in the order of `dump` and `load`.
+pub fn state_numbers(state: &State) -> Vec<u32> {
+    let mut numbers = vec![
+        state.clock,
+        u32::from(state.pin),
+        u32::from(state.control),
+        u32::from(state.frequency),
+        u32::from(state.faults),
+        u32::from(state.mask2),
+        u32::from(state.mask1),
+        u32::from(state.options),
+        u32::from(state.expired),
+        u32::from(state.idle),
+        u32::from(state.start_watchdog),
+        u32::from(state.start_spinup),
+        u32::from(state.start_target),
+        u32::from(state.start_frequency),
+    ];
+    for channel in &state.channels {
+        numbers.extend(channel_numbers(channel));
+    }
+    numbers
+}
+
+fn channel_numbers(channel: &Channel) -> [u32; 9] {
+    [
+        u32::from(channel.config),
+        u32::from(channel.dynamics),
+        u32::from(channel.count),
+        u32::from(channel.ramp),
+        u32::from(channel.spin),
+        u32::from(channel.target),
+        u32::from(channel.target_count),
+        u32::from(channel.window),
+        u32::from(channel.queue),
+    ]
+}
+
+#[cfg(test)]
+mod tests {
+    use super::*;
+
+    fn answer(call: Call, state: &mut State) -> String {
+        call.make(state).1
+    }
+
+    #[test]
+    fn a_cabin_reading_has_nine_decimals() {
+        let (_, mut state) = model::start(0, 0, 0, 0);
+        state.clock = u32::MAX;
+        state.channels[0].ramp = 510;
+        state.channels[1].ramp = 511;
+        state.channels[2].ramp = 1;
+        let expected = "0 8388607.998046875 0.996093750 1.000000000 0.001953125 0.000000000 \
+                        0.000000000 0.000000000";
+        assert_eq!(answer(Call::Cabin, &mut state), expected);
+    }
+
+    #[test]
+    fn refused_queries_answer_with_nothing_but_zeros() {
+        let mut state = State {
+            mask1: 0x40,
+            clock: 5,
+            faults: 1,
+            ..State::default()
+        };
+        let nothing = "1 0.000000000 0.000000000 0.000000000 0.000000000 0.000000000 0.000000000 \
+                       0.000000000";
+        assert_eq!(answer(Call::Cabin, &mut state), nothing);
+        assert_eq!(answer(Call::FanFail, &mut state), "1 0 0 0");
+        assert_eq!(answer(Call::Read { address: 1 }, &mut state), "1 0");
+    }
+
+    #[test]
+    fn a_dump_gives_the_numbers_that_were_loaded() {
+        let (_, given) = model::start(2, 1, 300, 0x77);
+        let mut state = State::default();
+        assert_eq!(answer(Call::Load(given), &mut state), "ok");
+        assert_eq!(state, given);
+        let dump = answer(Call::Dump, &mut state);
+        assert!(
+            dump.starts_with("0 1 36 119 0 63 63 69 0 0 2 1 300 119 32 76 2047 0 0 300 480 0 0 ")
+        );
+        assert_eq!(dump.split(' ').count(), 68);
+    }
+
+    #[test]
+    fn answers_begin_with_the_refusal_number() {
+        let mut state = State::default();
+        let refused = Call::Start {
+            watchdog: 4,
+            spin_up: 0,
+            target: 0,
+            frequency: 0,
+        };
+        assert_eq!(answer(refused, &mut state), "7");
+        assert_eq!(answer(Call::Read { address: 0x0E }, &mut state), "2 0");
+        assert_eq!(answer(Call::Read { address: 0x30 }, &mut state), "0 255");
+        let speed = |range_code, pulses, count| Call::Speed {
+            range_code,
+            pulses,
+            count,
+        };
+        assert_eq!(answer(speed(2, 2, 1000), &mut state), "0 983");
+        assert_eq!(answer(speed(2, 0, 1000), &mut state), "6 0");
+    }
+}

@@ -1,0 +1,820 @@
+//! The paper's trials ("Trials on both sides"), its soundness clause by clause, and the places
+//! where its sentences meet.
+
+use super::*;
+use crate::random::Random;
+use crate::states::{sound_state, unusual_sound_state};
+
+/// A box that runs with the watchdog off, no override and no spin-up code; its channels rest at 0.
+fn quiet() -> State {
+    let (refusal, state) = start(0, 0, 0, 0);
+    assert_eq!(refusal, ACCEPTED);
+    state
+}
+
+/// The quiet box with channel 1 on its way at the given clock.
+fn ramping(clock: u32, ramp: u16, target: u16, dynamics: u8) -> State {
+    let mut state = quiet();
+    state.clock = clock;
+    state.channels[0].ramp = ramp;
+    state.channels[0].target = target;
+    state.channels[0].dynamics = dynamics;
+    state
+}
+
+fn rate(code: u8) -> u8 {
+    code << 2
+}
+
+fn after(state: &State, count: u32) -> State {
+    let (refusal, next) = ticks(state, count);
+    assert_eq!(refusal, ACCEPTED);
+    next
+}
+
+fn ramp_after(state: &State, count: u32) -> u16 {
+    after(state, count).channels[0].ramp
+}
+
+fn written(state: &State, address: u32, byte: u8) -> State {
+    let (refusal, next) = write(state, address, byte);
+    assert_eq!(refusal, ACCEPTED);
+    assert!(sound(&next));
+    next
+}
+
+fn byte_at(state: &State, address: u32) -> u8 {
+    let (refusal, byte, next) = read(state, address);
+    assert_eq!(refusal, ACCEPTED);
+    assert!(sound(&next));
+    byte
+}
+
+fn with_result(state: &State, channel: u32, count: u32) -> State {
+    let (refusal, next) = tachometer(state, channel, count);
+    assert_eq!(refusal, ACCEPTED);
+    assert!(sound(&next));
+    next
+}
+
+/// Channel 1 at duty 100 with its tachometer enabled and target count 480.
+fn watched(queue_code: u8) -> State {
+    let mut state = ramping(0, 100, 100, rate(3));
+    state.channels[0].config = TACHOMETER_ENABLED;
+    state.options = 0x04 | queue_code;
+    state
+}
+
+// The paper's trials
+
+#[test]
+fn rising_ramp() {
+    let state = ramping(6, 100, 110, rate(3));
+    assert_eq!(ramp_after(&state, 37), 109);
+    assert_eq!(ramp_after(&state, 38), 110);
+}
+
+#[test]
+fn asymmetric_fall() {
+    let state = ramping(6, 110, 100, rate(3) | ASYMMETRIC_FALL);
+    assert_eq!(ramp_after(&state, 73), 101);
+    assert_eq!(ramp_after(&state, 74), 100);
+}
+
+#[test]
+fn clock_returns_to_zero() {
+    let next = after(&ramping(4_294_967_294, 100, 101, rate(3)), 2);
+    assert_eq!((next.clock, next.channels[0].ramp), (0, 101));
+}
+
+#[test]
+fn jump_of_nothing() {
+    let state = ramping(6, 100, 110, rate(3));
+    assert_eq!(ticks(&state, 0), (ACCEPTED, state));
+}
+
+#[test]
+fn spin_up_and_ramp_down() {
+    let mut state = ramping(0, 0, 200, rate(1));
+    state.channels[0].config = 1 << 5;
+    assert_eq!(ramp_after(&state, 257), 511);
+    assert_eq!(after(&state, 257).channels[0].spin, 0);
+    assert_eq!(ramp_after(&state, 258), 510);
+    assert_eq!(ramp_after(&state, 567), 201);
+    assert_eq!(ramp_after(&state, 568), 200);
+}
+
+#[test]
+fn watchdog_expiry() {
+    let state = written(&quiet(), 0x00, 0x02);
+    let short = after(&state, 2559);
+    let whole = after(&state, 2560);
+    assert!(!short.expired && short.control & STATUS == 0);
+    assert!(whole.expired && whole.control & STATUS != 0);
+    assert_eq!(whole.idle, 2560);
+}
+
+#[test]
+fn output_duty_bytes() {
+    let full = ramping(0, 511, 511, 0);
+    assert_eq!((byte_at(&full, 0x30), byte_at(&full, 0x31)), (0xFF, 0x81));
+    let part = ramping(0, 200, 200, 0);
+    assert_eq!((byte_at(&part, 0x30), byte_at(&part, 0x31)), (0x64, 0x00));
+}
+
+#[test]
+fn stored_counts() {
+    for (count, high, low) in [(1000, 0x7D, 0x00), (5000, 0xFF, 0xE0)] {
+        let next = with_result(&watched(0), 1, count);
+        assert_eq!((byte_at(&next, 0x18), byte_at(&next, 0x19)), (high, low));
+    }
+}
+
+#[test]
+fn fault_with_the_eighth_result() {
+    let mut state = watched(2);
+    for bad in [true, true, true, false, true, true, true] {
+        state = with_result(&state, 1, if bad { 481 } else { 480 });
+        assert_eq!(state.faults, 0);
+    }
+    state = with_result(&state, 1, 481);
+    assert_eq!(state.faults, 1);
+}
+
+#[test]
+fn speed_of_the_trial() {
+    assert_eq!(speed(2, 2, 1000), (ACCEPTED, 983));
+}
+
+#[test]
+fn reset_is_not_standby() {
+    let next = written(&quiet(), 0x00, 0xC0);
+    assert_eq!(next, quiet());
+}
+
+#[test]
+fn refusals_of_the_trials() {
+    let state = quiet();
+    assert_eq!(write(&state, 0x0E, 0), (NOT_CARRIED, state));
+    assert_eq!(read(&state, 0x0E), (NOT_CARRIED, 0, state));
+    assert_eq!(write(&state, 0x11, 0), (READ_ONLY, state));
+    assert_eq!(write(&state, 0x02, 0x80), (CONFIGURATION, state));
+}
+
+// Time
+
+#[test]
+fn the_tick_of_the_expiry_is_frozen() {
+    let mut state = ramping(0, 100, 110, rate(1));
+    state.control |= 0x02;
+    state.idle = 2558;
+    assert_eq!(ramp_after(&state, 1), 101);
+    let frozen = after(&state, 2);
+    assert!(frozen.expired);
+    assert_eq!(frozen.channels[0].ramp, 101);
+    assert_eq!(output_duty(&frozen, 0), 511);
+    assert_eq!(after(&state, 4_294_967_295).channels[0].ramp, 101);
+}
+
+#[test]
+fn idle_runs_on_in_standby_and_under_a_low_pin() {
+    for (control, pin) in [(0x82, true), (0x02, false)] {
+        let mut state = quiet();
+        state.control = control;
+        state.pin = pin;
+        assert!(!after(&state, 2559).expired);
+        assert!(after(&state, 2560).expired);
+    }
+}
+
+#[test]
+fn an_expiry_stays_as_it_is_without_an_access() {
+    let expired = after(&written(&quiet(), 0x00, 0x06), 15_360);
+    let later = after(&expired, 100_000);
+    assert!(later.expired);
+    assert_eq!(later.idle, 15_360);
+    assert_eq!(later.clock, 115_360);
+}
+
+#[test]
+fn watchdog_limits_of_all_codes() {
+    assert!(!after(&quiet(), u32::MAX).expired);
+    for (code, limit) in [(1, 2560), (2, 5120), (3, 15_360)] {
+        let state = written(&quiet(), 0x00, code << 1);
+        assert!(!after(&state, limit - 1).expired);
+        assert!(after(&state, limit).expired);
+    }
+}
+
+#[test]
+fn spin_up_lengths_of_all_codes() {
+    for (code, length) in [(1, 256), (2, 512), (3, 1024)] {
+        let mut state = ramping(0, 0, 1, rate(1));
+        state.channels[0].config = code << 5;
+        assert_eq!(after(&state, 1).channels[0].spin, length);
+        assert_eq!(after(&state, u32::from(length)).channels[0].spin, 1);
+        let done = after(&state, u32::from(length) + 1);
+        assert_eq!((done.channels[0].spin, done.channels[0].ramp), (0, 511));
+    }
+}
+
+#[test]
+fn periods_of_all_rate_codes() {
+    assert_eq!(ramp_after(&ramping(3, 100, 400, rate(0)), 1), 400);
+    for code in 1..=7 {
+        let step = 1 << (code - 1);
+        let rising = ramping(0, 100, 101, rate(code) | ASYMMETRIC_FALL);
+        assert_eq!(ramp_after(&rising, step - 1), 100);
+        assert_eq!(ramp_after(&rising, step), 101);
+        // The period is counted by the clock, which is about to be a multiple of it.
+        let close = ramping(step - 1, 100, 102, rate(code));
+        assert_eq!(ramp_after(&close, 1), 101);
+        assert_eq!(ramp_after(&close, step), 101);
+        assert_eq!(ramp_after(&close, step + 1), 102);
+        let falling = ramping(0, 101, 100, rate(code) | ASYMMETRIC_FALL);
+        assert_eq!(ramp_after(&falling, 2 * step - 1), 101);
+        assert_eq!(ramp_after(&falling, 2 * step), 100);
+    }
+}
+
+#[test]
+fn no_spin_up_without_code_or_target() {
+    let mut state = ramping(0, 0, 5, rate(1));
+    assert_eq!(ramp_after(&state, 1), 1);
+    state.channels[0].config = 3 << 5;
+    state.channels[0].target = 0;
+    assert_eq!(after(&state, 1).channels[0].spin, 0);
+}
+
+#[test]
+fn each_override_freezes_ramp_and_spin_up() {
+    let mut moving = ramping(0, 100, 200, rate(1));
+    moving.channels[1].ramp = 511;
+    moving.channels[1].spin = 9;
+    let low = pin(&moving, false).1;
+    let mut expired = moving;
+    expired.control |= 0x02;
+    expired.idle = 2560;
+    expired.expired = true;
+    let mut all_failed = moving;
+    all_failed.faults = 0x20;
+    all_failed.options = 0x0C;
+    for state in [low, expired, all_failed] {
+        let later = after(&state, 10);
+        assert_eq!(later.channels, state.channels);
+        assert_eq!(later.clock, 10);
+    }
+    assert_ne!(after(&moving, 10).channels, moving.channels);
+}
+
+#[test]
+fn single_ticks_and_a_jump_agree() {
+    let mut random = Random::new(11);
+    for turn in 0..120 {
+        let state = if turn % 2 == 0 {
+            sound_state(&mut random)
+        } else {
+            unusual_sound_state(&mut random)
+        };
+        let count = random.between(0, 30_000);
+        let mut single = state;
+        for _ in 0..count {
+            tick(&mut single);
+        }
+        assert_eq!(ticks(&state, count), (ACCEPTED, single));
+    }
+}
+
+#[test]
+fn what_rests_goes_on_resting() {
+    let mut random = Random::new(12);
+    for _ in 0..200 {
+        let mut state = after(&sound_state(&mut random), u32::MAX);
+        assert!(at_rest(&state));
+        let rested = state;
+        for _ in 0..300 {
+            tick(&mut state);
+        }
+        let clock = rested.clock.wrapping_add(300);
+        assert_eq!(state, State { clock, ..rested });
+    }
+}
+
+// Which duty comes out
+
+#[test]
+fn the_first_line_that_applies() {
+    let mut state = ramping(0, 511, 100, rate(3));
+    state.channels[0].ramp = 300;
+    assert_eq!(deciding_line(&state, 0), Line::Ramp);
+    state.channels[0].ramp = 511;
+    state.channels[0].spin = 4;
+    assert_eq!(deciding_line(&state, 0), Line::SpinUp);
+    state.faults = 1;
+    state.options = 0x00;
+    assert_eq!(deciding_line(&state, 0), Line::FailedFan(0));
+    state.expired = true;
+    assert_eq!(deciding_line(&state, 0), Line::WatchdogExpired);
+    state.control |= STANDBY;
+    assert_eq!(deciding_line(&state, 0), Line::Standby);
+    state.pin = false;
+    assert_eq!(deciding_line(&state, 0), Line::FullSpeed);
+    state.channels[0].config = MONITOR_ONLY;
+    assert_eq!(deciding_line(&state, 0), Line::MonitorOnly);
+}
+
+#[test]
+fn duties_of_the_lines() {
+    let mut state = ramping(0, 300, 300, rate(3));
+    assert_eq!(output_duty(&state, 0), 300);
+    state.pin = false;
+    assert_eq!(output_duty(&state, 0), 511);
+    state = written(&quiet(), 0x00, STANDBY);
+    assert_eq!(output_duty(&state, 0), 0);
+    assert_eq!(output_duty(&pin(&state, false).1, 0), 511);
+    state = written(&quiet(), 0x02, MONITOR_ONLY);
+    assert_eq!(output_duty(&pin(&state, false).1, 0), 0);
+}
+
+#[test]
+fn failed_fan_options() {
+    let mut state = ramping(0, 300, 300, rate(3));
+    state.faults = 1;
+    state.mask1 = 0x3F;
+    let duties = |state: &State| (output_duty(state, 0), output_duty(state, 1));
+    for (option, expected) in [(0, (0, 0)), (1, (300, 0)), (2, (511, 0)), (3, (511, 511))] {
+        state.options = option << 2;
+        assert_eq!(duties(&state), expected);
+    }
+    // Any fault bit counts, also that of a monitor-only channel, which itself stays at 0.
+    state = written(&state, 0x02, MONITOR_ONLY);
+    assert_eq!(duties(&state), (0, 511));
+}
+
+// Registers
+
+#[test]
+fn eighty_five_registers_are_carried() {
+    assert_eq!((0..100_000).filter(|&address| carried(address)).count(), 85);
+    assert_eq!(
+        (0..100_000).filter(|&address| read_only(address)).count(),
+        38
+    );
+    for address in [
+        0x0D, 0x10, 0x14, 0x18, 0x3B, 0x40, 0x4B, 0x50, 0x5B, 0x60, 0x65,
+    ] {
+        assert!(carried(address));
+    }
+    for address in [
+        0x0E, 0x0F, 0x15, 0x17, 0x3C, 0x3F, 0x4C, 0x4F, 0x5C, 0x5F, 0x66, 0x100,
+    ] {
+        assert!(!carried(address));
+    }
+}
+
+#[test]
+fn power_on_values() {
+    let (_, state) = start(3, 2, 300, 0xB7);
+    let table = [
+        (0x00, 0b0010_0110),
+        (0x01, 0xB7),
+        (0x02, 0b0100_0000),
+        (0x0D, 0b0100_1100),
+        (0x10, 0),
+        (0x11, 0),
+        (0x12, 0b0011_1111),
+        (0x13, 0b0011_1111),
+        (0x14, 0b0100_0101),
+        (0x18, 0b1111_1111),
+        (0x19, 0b1110_0000),
+        (0x2E, 0b1111_1111),
+        (0x2F, 0b1110_0000),
+        (0x30, 0),
+        (0x3B, 0),
+        (0x40, 0x96),
+        (0x41, 0x00),
+        (0x5A, 0b0011_1100),
+        (0x5B, 0),
+        (0x65, 0),
+    ];
+    for (address, byte) in table {
+        assert_eq!(byte_at(&state, address), byte, "{address:02X}h");
+    }
+    assert!(state.pin && sound(&state));
+    assert_eq!((state.clock, state.idle), (0, 0));
+}
+
+#[test]
+fn kept_bits_of_a_written_byte() {
+    let kept = [
+        (0x00, 0xBF, 0xAE),
+        (0x01, 0xFF, 0xFF),
+        (0x02, 0x7A, 0x7A),
+        (0x08, 0xFF, 0xFE),
+        (0x12, 0xFF, 0x3F),
+        (0x13, 0xFF, 0x3F),
+        (0x14, 0xFF, 0xEF),
+        (0x40, 0xFF, 0xFF),
+        (0x41, 0xFF, 0x80),
+        (0x50, 0xFF, 0xFF),
+        (0x51, 0xFF, 0xE0),
+        (0x65, 0xFF, 0xFF),
+    ];
+    for (address, byte, shown) in kept {
+        assert_eq!(byte_at(&written(&quiet(), address, byte), address), shown);
+    }
+}
+
+#[test]
+fn a_target_byte_keeps_the_other_half() {
+    let mut state = written(&quiet(), 0x4A, 0xFF);
+    assert_eq!(state.channels[5].target, 510);
+    state = written(&state, 0x4B, 0x80);
+    assert_eq!(state.channels[5].target, 511);
+    // Bit 0 of the low byte at 511 is the output duty's alone.
+    assert_eq!(byte_at(&state, 0x4B), 0x80);
+    state = written(&state, 0x4A, 0x00);
+    assert_eq!(state.channels[5].target, 1);
+    state = written(&state, 0x52, 0x80);
+    assert_eq!(state.channels[1].target_count, 1024);
+    state = written(&state, 0x53, 0xFF);
+    assert_eq!(state.channels[1].target_count, 1031);
+}
+
+#[test]
+fn tachometers_seven_to_twelve_read_full_scale() {
+    let mut state = quiet();
+    state
+        .channels
+        .iter_mut()
+        .for_each(|channel| channel.count = 0);
+    assert_eq!((byte_at(&state, 0x22), byte_at(&state, 0x23)), (0, 0));
+    for address in (0x24..=0x2E).step_by(2) {
+        assert_eq!(byte_at(&state, address), 0xFF);
+        assert_eq!(byte_at(&state, address + 1), 0xE0);
+    }
+}
+
+// Start, reset, standby, monitor only
+
+#[test]
+fn start_refuses_values_out_of_range() {
+    let nothing = State::default();
+    assert!(!nothing.pin && sound(&nothing));
+    for (watchdog, spin_up, target) in [(4, 0, 0), (0, 4, 0), (0, 0, 512), (u32::MAX, 0, 0)] {
+        assert_eq!(
+            start(watchdog, spin_up, target, 9),
+            (PIN_SET_VALUE, nothing)
+        );
+    }
+    assert_eq!(start(3, 3, 511, 255).0, ACCEPTED);
+    // The pin is low: every duty is 511.
+    assert_eq!(output_duty(&nothing, 0), 511);
+}
+
+#[test]
+fn reset_keeps_clock_and_pin_alone() {
+    let (_, fresh) = start(1, 2, 33, 0x77);
+    let mut state = fresh;
+    for (address, byte) in [
+        (0x00, 0xA6),
+        (0x02, 0x18),
+        (0x09, 0x00),
+        (0x13, 0),
+        (0x14, 0),
+        (0x61, 9),
+    ] {
+        state = written(&state, address, byte);
+    }
+    state.faults = 0x15;
+    state.channels[2].queue = 5;
+    state.control |= STATUS;
+    state = pin(&after(&state, 12_345), false).1;
+    let reset = written(&state, 0x00, 0xFF);
+    assert_eq!(
+        reset,
+        State {
+            clock: 12_345,
+            pin: false,
+            ..fresh
+        }
+    );
+}
+
+#[test]
+fn standby_and_monitor_zero_ramp_and_spin_up() {
+    let mut state = ramping(0, 300, 300, rate(3));
+    state.channels[1].ramp = 511;
+    state.channels[1].spin = 7;
+    state.channels[0].queue = 3;
+    state.faults = 1;
+    let standby = written(&state, 0x00, 0x80);
+    assert!(standby
+        .channels
+        .iter()
+        .all(|channel| channel.ramp == 0 && channel.spin == 0));
+    assert_eq!((standby.faults, standby.channels[0].queue), (1, 3));
+    let monitor = written(&state, 0x03, MONITOR_ONLY);
+    assert_eq!((monitor.channels[1].ramp, monitor.channels[1].spin), (0, 0));
+    assert_eq!(monitor.channels[0], state.channels[0]);
+    // A changed spin-up code does not shorten one that runs.
+    let recoded = written(&state, 0x03, 0x00);
+    assert_eq!(
+        (recoded.channels[1].ramp, recoded.channels[1].spin),
+        (511, 7)
+    );
+}
+
+// Bus accesses, the status bit and the expiry
+
+#[test]
+fn an_access_ends_an_expiry_and_keeps_the_status_bit() {
+    let expired = after(&written(&quiet(), 0x00, 0x02), 2560);
+    assert_eq!(byte_at(&expired, 0x30), 0xFF);
+    let read_elsewhere = read(&expired, 0x30).2;
+    assert!(!read_elsewhere.expired && read_elsewhere.idle == 0);
+    assert_eq!(read_elsewhere.control, 0x03);
+    let rewritten = written(&expired, 0x00, 0x00);
+    assert_eq!((rewritten.control, rewritten.expired), (0x01, false));
+    let (_, byte, cleared) = read(&expired, 0x00);
+    assert_eq!((byte, cleared.control), (0x03, 0x02));
+}
+
+#[test]
+fn other_calls_do_not_feed_the_watchdog() {
+    let counting = after(&written(&quiet(), 0x00, 0x02), 100);
+    assert_eq!(counting.idle, 100);
+    assert_eq!(write(&counting, 0x11, 0).1.idle, 100);
+    assert_eq!(write(&counting, 0x02, 0x01).1.idle, 100);
+    assert_eq!(read(&counting, 0x3C).2.idle, 100);
+    assert_eq!(with_result(&counting, 1, 5).idle, 100);
+    assert_eq!(pin(&counting, false).1.idle, 100);
+    assert_eq!(read(&counting, 0x3B).2.idle, 0);
+    assert_eq!(written(&counting, 0x12, 0).idle, 0);
+}
+
+// Tachometer results
+
+#[test]
+fn a_disabled_tachometer_changes_nothing() {
+    let state = ramping(0, 100, 100, rate(3));
+    assert_eq!(tachometer(&state, 1, 2047), (ACCEPTED, state));
+}
+
+#[test]
+fn results_are_judged_by_the_state_before_them() {
+    let standing = watched(0);
+    let bad = |state: &State| with_result(state, 1, 481).channels[0].queue;
+    assert_eq!(bad(&standing), 1);
+    assert_eq!(bad(&written(&standing, 0x00, STANDBY)), 0);
+    let mut state = standing;
+    state.channels[0].ramp = 0;
+    assert_eq!(bad(&state), 0);
+    // Monitor only is judged at duty 0; FULL_SPEED low gives a duty of 511.
+    assert_eq!(bad(&written(&standing, 0x02, 0x18)), 1);
+    assert_eq!(bad(&pin(&state, false).1), 1);
+    state.channels[0].ramp = 511;
+    state.channels[0].spin = 1;
+    assert_eq!(bad(&state), 0);
+    // A spin-up frozen under an override still has time left.
+    assert_eq!(bad(&pin(&state, false).1), 0);
+}
+
+#[test]
+fn option_zero_leaves_results_of_a_failed_channel_unjudged() {
+    let mut state = watched(0);
+    state.options = 0x00;
+    state = with_result(&state, 1, 481);
+    assert_eq!((state.faults, state.channels[0].queue), (1, 1));
+    let good = with_result(&state, 1, 3);
+    assert_eq!((good.channels[0].count, good.channels[0].queue), (3, 1));
+    let full_speed = with_result(&pin(&state, false).1, 1, 3);
+    assert_eq!(full_speed.channels[0].queue, 0);
+}
+
+#[test]
+fn a_count_at_the_target_is_good_and_keeps_the_fault() {
+    let mut state = watched(0);
+    state = with_result(&state, 1, 481);
+    assert_eq!((state.faults, state.channels[0].queue), (1, 1));
+    state = with_result(&state, 1, 480);
+    assert_eq!((state.faults, state.channels[0].queue), (1, 0));
+    state.channels[0].target_count = 2047;
+    state = with_result(&state, 1, u32::MAX);
+    assert_eq!(
+        (state.channels[0].count, state.channels[0].queue),
+        (2047, 0)
+    );
+}
+
+#[test]
+fn queue_lengths_and_the_cap() {
+    for (code, length) in [(0, 1), (1, 2), (2, 4), (3, 6)] {
+        let mut state = watched(code);
+        for results in 1..=9 {
+            state = with_result(&state, 1, 2047);
+            assert_eq!(state.faults, u8::from(results >= length));
+            assert_eq!(state.channels[0].queue, results.min(6));
+        }
+    }
+}
+
+#[test]
+fn a_target_duty_write_clears_fault_and_queue_of_its_channel() {
+    let mut state = watched(0);
+    state.faults = 0x03;
+    state.channels[0].queue = 4;
+    state.channels[1].queue = 5;
+    for address in [0x42, 0x43] {
+        let next = written(&state, address, 0x10);
+        assert_eq!(
+            (next.faults, next.channels[0].queue, next.channels[1].queue),
+            (1, 4, 0)
+        );
+    }
+    let others = [0x02, 0x08, 0x13, 0x14, 0x50, 0x51, 0x60];
+    for address in others {
+        let next = written(&state, address, 0x00);
+        assert_eq!((next.faults, next.channels[0].queue), (3, 4));
+    }
+    assert_eq!(read(&state, 0x11).2.faults, 3);
+}
+
+// Queries and speed
+
+#[test]
+fn fan_fail_counts_unmasked_faults() {
+    let mut state = quiet();
+    state.faults = 0b10_1101;
+    assert_eq!(fan_fail(&state), (ACCEPTED, false, 0, 0));
+    state.mask1 = 0b00_0001;
+    assert_eq!(fan_fail(&state), (ACCEPTED, true, 3, 3));
+    state.mask1 = 0;
+    assert_eq!(fan_fail(&state), (ACCEPTED, true, 4, 1));
+}
+
+#[test]
+fn cabin_reading_is_exact() {
+    let mut state = ramping(1, 510, 510, 0);
+    state.channels[1].ramp = 511;
+    let (refusal, seconds, shares) = cabin(&state);
+    assert_eq!((refusal, seconds), (ACCEPTED, 1_953_125));
+    assert_eq!(shares, [996_093_750, 1_000_000_000, 0, 0, 0, 0]);
+}
+
+#[test]
+fn speeds_and_their_refusals() {
+    assert_eq!(speed(0, 1, 1), (ACCEPTED, 491_520));
+    assert_eq!(speed(7, 1, 1), (ACCEPTED, 15_728_640));
+    assert_eq!(speed(5, 4, 2046), (ACCEPTED, 1921));
+    for (range_code, pulses, count) in [
+        (8, 1, 1),
+        (0, 0, 1),
+        (0, 5, 1),
+        (0, 1, 0),
+        (0, 1, 2047),
+        (u32::MAX, u32::MAX, u32::MAX),
+    ] {
+        assert_eq!(speed(range_code, pulses, count), (NO_SPEED, 0));
+    }
+}
+
+// Soundness, clause by clause
+
+/// A change that alone makes a sound state not sound.
+fn spoils(change: impl Fn(&mut State)) {
+    let mut state = ramping(0, 300, 300, rate(3));
+    change(&mut state);
+    assert!(!sound(&state), "{state:?}");
+    assert_eq!(write(&state, 0xFFFF, 0), (NOT_SOUND, state));
+    assert_eq!(read(&state, 0xFFFF), (NOT_SOUND, 0, state));
+    assert_eq!(ticks(&state, 0), (NOT_SOUND, state));
+    assert_eq!(ticks(&state, 9), (NOT_SOUND, state));
+    assert_eq!(tachometer(&state, 0, 0), (NOT_SOUND, state));
+    assert_eq!(pin(&state, false), (NOT_SOUND, state));
+    assert_eq!(cabin(&state), (NOT_SOUND, 0, [0; 6]));
+    assert_eq!(fan_fail(&state), (NOT_SOUND, false, 0, 0));
+}
+
+fn keeps_sound(change: impl Fn(&mut State)) {
+    let mut state = ramping(0, 300, 300, rate(3));
+    change(&mut state);
+    assert!(sound(&state), "{state:?}");
+}
+
+#[test]
+fn fields_of_the_box_in_range() {
+    spoils(|state| state.control |= 0x40);
+    spoils(|state| state.control |= 0x10);
+    spoils(|state| state.mask2 = 0x40);
+    spoils(|state| state.mask1 = 0x80);
+    spoils(|state| state.options |= 0x10);
+    spoils(|state| state.start_watchdog = 4);
+    spoils(|state| state.start_spinup = 4);
+    spoils(|state| state.start_target = 512);
+    keeps_sound(|state| {
+        state.control = 0x29;
+        state.frequency = 0xFF;
+        state.mask1 = 0x3F;
+        state.options = 0xEF;
+        state.start_watchdog = 3;
+        state.start_spinup = 3;
+        state.start_target = 511;
+        state.start_frequency = 0xFF;
+        state.faults = 0x3F;
+    });
+}
+
+#[test]
+fn fields_of_a_channel_in_range() {
+    for bit in [0x80, 0x04, 0x01] {
+        spoils(|state| state.channels[5].config |= bit);
+    }
+    spoils(|state| state.channels[4].dynamics |= 1);
+    spoils(|state| state.channels[3].count = 2048);
+    spoils(|state| state.channels[2].ramp = 512);
+    spoils(|state| state.channels[1].target = 512);
+    spoils(|state| state.channels[0].target_count = 2048);
+    spoils(|state| state.channels[5].queue = 7);
+    spoils(|state| {
+        state.channels[0].ramp = 511;
+        state.channels[0].spin = 1025;
+    });
+    keeps_sound(|state| {
+        state.channels[0].ramp = 511;
+        state.channels[0].spin = 1024;
+        state.channels[0].config = 0x0A;
+        state.channels[0].dynamics = 0xFE;
+        state.channels[0].count = 2047;
+        state.channels[0].target = 511;
+        state.channels[0].target_count = 2047;
+        state.channels[0].window = 0xFF;
+        state.channels[0].queue = 6;
+    });
+}
+
+#[test]
+fn ramp_and_spin_up_agree_with_the_mode() {
+    spoils(|state| state.channels[0].config |= MONITOR_ONLY);
+    spoils(|state| state.control |= STANDBY);
+    spoils(|state| state.channels[0].spin = 1);
+    spoils(|state| {
+        state.channels[1].config |= MONITOR_ONLY;
+        state.channels[1].spin = 1;
+    });
+    keeps_sound(|state| state.channels[1].config |= MONITOR_ONLY);
+    keeps_sound(|state| {
+        state.control |= STANDBY;
+        state.channels[0].ramp = 0;
+    });
+}
+
+#[test]
+fn watchdog_counts_agree() {
+    spoils(|state| state.idle = 1);
+    spoils(|state| state.expired = true);
+    for (code, limit) in [(1, 2560), (2, 5120), (3, 15_360)] {
+        let set = |state: &mut State, idle, expired| {
+            state.control |= code << 1;
+            state.idle = idle;
+            state.expired = expired;
+        };
+        spoils(|state| set(state, limit, false));
+        spoils(|state| set(state, limit + 1, false));
+        spoils(|state| set(state, limit + 1, true));
+        spoils(|state| set(state, limit - 1, true));
+        spoils(|state| set(state, 0, true));
+        keeps_sound(|state| set(state, limit - 1, false));
+        // Expired with the status bit clear is sound.
+        keeps_sound(|state| set(state, limit, true));
+    }
+    keeps_sound(|state| state.control |= STATUS);
+}
+
+#[test]
+fn a_channel_from_one_to_six() {
+    let state = quiet();
+    for channel in [0, 7, 256, u32::MAX] {
+        assert_eq!(tachometer(&state, channel, 5), (NO_SUCH_CHANNEL, state));
+    }
+    for channel in 1..=6 {
+        assert_eq!(tachometer(&state, channel, 5).0, ACCEPTED);
+    }
+}
+
+#[test]
+fn states_after_sound_ones_are_sound() {
+    let mut random = Random::new(13);
+    for _ in 0..3000 {
+        let state = sound_state(&mut random);
+        let address = random.below(0x68);
+        let byte = random.byte();
+        let channel = random.between(1, 6);
+        let count = random.below(2100);
+        assert!(sound(&write(&state, address, byte).1));
+        assert!(sound(&read(&state, address).2));
+        assert!(sound(&tachometer(&state, channel, count).1));
+        assert!(sound(&ticks(&state, count).1));
+        assert!(sound(&pin(&state, !state.pin).1));
+    }
+}

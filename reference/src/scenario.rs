@@ -1,0 +1,565 @@
+//! Random scenarios: lines for the console and the answers that the model expects. A scenario is a
+//! row of short drills, each about one part of the paper, all on the one state in hand.
+
+use crate::choices;
+use crate::console::Call;
+use crate::model::{
+    queue_length, Channel, State, CHANNELS, FULL_DUTY, MONITOR_ONLY, TACHOMETER_ENABLED,
+};
+use crate::random::Random;
+use crate::seen::Seen;
+use crate::states::{
+    flawed_state, random_count, random_duty, sound_state, unusual_sound_state, FLAWS,
+};
+use crate::text::{call_line, skipped_line};
+
+pub struct Scenario {
+    random: Random,
+    state: State,
+    /// The next of the flaws, which are taken in turn.
+    next_flaw: usize,
+    pub input: String,
+    pub answers: String,
+    pub seen: Seen,
+}
+
+/// A scenario of at least `calls` answered lines. Until its first `start` or `load` the state in
+/// hand is the one that a refused start gives.
+pub fn scenario(seed: u64, calls: usize) -> Scenario {
+    let mut made = Scenario {
+        random: Random::new(seed),
+        state: State::default(),
+        next_flaw: (seed % FLAWS.len() as u64) as usize,
+        input: format!("# Scenario of seed {seed}.\n"),
+        answers: String::new(),
+        seen: Seen::default(),
+    };
+    made.try_the_state();
+    while made.seen.calls + 3 < calls {
+        made.drill();
+    }
+    for call in [Call::Cabin, Call::FanFail, Call::Dump] {
+        made.make(call);
+    }
+    if seed % 2 == 1 {
+        // "A last line without a line feed counts."
+        made.input.truncate(made.input.trim_end().len());
+    }
+    made
+}
+
+// The drills
+impl Scenario {
+    fn drill(&mut self) {
+        let drills: [(u32, fn(&mut Scenario)); 11] = [
+            (18, Scenario::register_drill),
+            (4, Scenario::sweep_drill),
+            (16, Scenario::ramp_drill),
+            (14, Scenario::spin_up_drill),
+            (14, Scenario::watchdog_drill),
+            (20, Scenario::tachometer_drill),
+            (12, Scenario::override_drill),
+            (8, Scenario::start_drill),
+            (24, Scenario::load_drill),
+            (30, Scenario::flaw_drill),
+            (8, Scenario::speed_drill),
+        ];
+        let drill = self.random.weighted(&drills);
+        drill(self);
+        if self.random.chance(1, 2) {
+            self.make(Call::Dump);
+        }
+    }
+
+    /// Bus traffic of every kind, with some ticks between.
+    fn register_drill(&mut self) {
+        for _ in 0..self.random.between(4, 12) {
+            match self.random.below(8) {
+                0..=3 => self.write_something(),
+                4..=5 => self.read_something(),
+                6 => self.pass_ticks(),
+                _ => self.query(),
+            }
+        }
+    }
+
+    /// Reads of a row of registers, the gaps in it too, or writes to them.
+    fn sweep_drill(&mut self) {
+        let first = self.random.below(0x6A);
+        let last = first + self.random.between(6, 24);
+        let writes = self.random.chance(1, 3);
+        for address in first..=last {
+            if writes {
+                self.write_byte_for(address);
+            }
+            self.make(Call::Read { address });
+        }
+    }
+
+    fn ramp_drill(&mut self) {
+        let index = self.some_channel();
+        self.clear_overrides(index);
+        for _ in 0..self.random.between(1, 3) {
+            let dynamics = self.random.byte();
+            self.write(0x08 + index, dynamics);
+            self.write_target(index);
+            for _ in 0..self.random.between(1, 3) {
+                let channel = self.channel(index);
+                let count = choices::span_of_ramp(&mut self.random, &channel);
+                self.pass(count);
+                if self.random.chance(1, 4) {
+                    self.read_duty(index);
+                }
+            }
+        }
+    }
+
+    /// From ramp value 0 into a spin-up, which may be frozen, cut off or given another code.
+    fn spin_up_drill(&mut self) {
+        let index = self.some_channel();
+        self.clear_overrides(index);
+        let code = self.random.between(1, 3) as u8;
+        let others = self
+            .random
+            .pick(&[0x00, TACHOMETER_ENABLED, TACHOMETER_ENABLED | 0x02]);
+        if self.channel(index).ramp > 0 {
+            // Monitor only for a moment: the shortest way to ramp value 0.
+            self.write(0x02 + index, others | MONITOR_ONLY);
+        }
+        self.write(0x02 + index, others | code << 5);
+        self.write_target(index);
+        for _ in 0..self.random.between(3, 7) {
+            match self.random.below(12) {
+                0..=5 => {
+                    let channel = self.channel(index);
+                    let count = choices::span_of_spin_up(&mut self.random, &channel);
+                    self.pass(count);
+                }
+                6 => self.write_byte_for(0x02 + index),
+                7..=8 => self.result(index),
+                9 => self.flip_pin(),
+                10 => self.write_byte_for(0x00),
+                _ => self.write_target(index),
+            }
+        }
+    }
+
+    fn watchdog_drill(&mut self) {
+        let code: u8 = self.random.weighted(&[(1, 0), (6, 1), (3, 2), (2, 3)]);
+        let others: u8 = self.random.weighted(&[(8, 0x20), (1, 0x28), (1, 0x11)]);
+        self.write(0x00, others | code << 1);
+        for _ in 0..self.random.between(2, 6) {
+            let index = self.some_channel();
+            match self.random.below(12) {
+                0..=4 => {
+                    let count = choices::span_to_expiry(&mut self.random, &self.state);
+                    self.pass(count);
+                }
+                5 => self.make(Call::Read { address: 0x00 }),
+                6..=7 => {
+                    self.refused_access();
+                    self.make(Call::Dump);
+                }
+                8 => self.read_something(),
+                9 => self.query(),
+                10 => self.flip_pin(),
+                _ => self.result(index),
+            }
+        }
+    }
+
+    /// Results that raise faults, with masks, queue codes and target writes that clear them.
+    fn tachometer_drill(&mut self) {
+        let index = self.some_channel();
+        self.ready_for_results(index);
+        for _ in 0..self.random.between(4, 14) {
+            match self.random.below(18) {
+                0..=5 => self.result(index),
+                6..=8 => self.bad_results(index),
+                9 => self.make(Call::FanFail),
+                10 => self.make(Call::Read { address: 0x11 }),
+                11 => {
+                    let address = 0x18 + self.random.below(24);
+                    self.make(Call::Read { address });
+                }
+                12 => self.result_somewhere(),
+                13 => self.write_byte_for(0x14),
+                14 => self.write_byte_for(0x13),
+                15..=16 => self.write_byte_for(0x41 + 2 * index),
+                _ => self.pass_ticks(),
+            }
+        }
+        if self.random.chance(1, 2) {
+            self.make(Call::FanFail);
+            self.write_target(index);
+        }
+    }
+
+    fn ready_for_results(&mut self, index: u32) {
+        if self.random.chance(3, 4) {
+            self.clear_overrides(index);
+        }
+        let monitor = self.random.chance(1, 6);
+        self.write(0x02 + index, if monitor { 0x18 } else { 0x08 });
+        self.write_target_count(index);
+        self.write_byte_for(0x13);
+        self.write_byte_for(0x14);
+        if self.state.fault(index as usize) && self.random.chance(4, 5) {
+            self.write_byte_for(0x41 + 2 * index);
+        }
+        if self.channel(index).ramp == 0 && !monitor {
+            self.write(0x08 + index, 0x40);
+            self.write(0x40 + 2 * index, 0x64);
+            self.pass(2);
+        }
+    }
+
+    /// Pin, standby, monitor only, reset and failed-fan options, looked at through the duties.
+    fn override_drill(&mut self) {
+        for _ in 0..self.random.between(2, 4) {
+            let index = self.some_channel();
+            match self.random.below(10) {
+                0..=1 => self.flip_pin(),
+                2..=3 => self.write_byte_for(0x00),
+                4 => {
+                    let reset = self.random.pick(&[0x40, 0xC0, 0x60, 0x46, 0xFF]);
+                    self.write(0x00, reset);
+                }
+                5 => self.write(0x02 + index, 0x3A),
+                6 => self.write_byte_for(0x02 + index),
+                _ => self.write_byte_for(0x14),
+            }
+            if self.random.chance(1, 2) {
+                self.pass_ticks();
+            }
+            self.result(index);
+            self.query();
+            self.read_duty(index);
+        }
+        if self.random.chance(3, 4) {
+            let index = self.some_channel();
+            self.clear_overrides(index);
+        }
+    }
+
+    fn start_drill(&mut self) {
+        let refused = self.random.chance(1, 3);
+        // A bit for each of the three values that can be out of range.
+        let wrong = if refused {
+            self.random.between(1, 7)
+        } else {
+            0
+        };
+        let call = Call::Start {
+            watchdog: choices::pin_set_value(&mut self.random, wrong & 1 != 0, 3),
+            spin_up: choices::pin_set_value(&mut self.random, wrong & 2 != 0, 3),
+            target: choices::pin_set_value(&mut self.random, wrong & 4 != 0, FULL_DUTY.into()),
+            frequency: self.random.byte(),
+        };
+        self.make(call);
+        self.try_the_state();
+    }
+
+    fn load_drill(&mut self) {
+        let state = if self.random.chance(1, 3) {
+            unusual_sound_state(&mut self.random)
+        } else {
+            sound_state(&mut self.random)
+        };
+        self.make(Call::Load(state));
+        self.try_the_state();
+    }
+
+    /// A state with a flaw in one field: every call that takes a state refuses it, and gives it
+    /// back. Then the console gets a sound one again.
+    fn flaw_drill(&mut self) {
+        let flaw = FLAWS[self.next_flaw];
+        self.next_flaw = (self.next_flaw + 1) % FLAWS.len();
+        let (mended, flawed) = flawed_state(&mut self.random, flaw);
+        self.make(Call::Load(flawed));
+        let first = self.random.below(8);
+        for turn in first..first + self.random.between(3, 8) {
+            match turn % 8 {
+                0 => self.write_something(),
+                1 => self.read_something(),
+                2 => {
+                    let count = choices::span(&mut self.random, &self.state);
+                    self.make(Call::Ticks { count });
+                }
+                3 => self.result_somewhere(),
+                4 => self.flip_pin(),
+                5 => self.make(Call::Cabin),
+                6 => self.make(Call::FanFail),
+                _ => self.one_speed(),
+            }
+        }
+        self.make(Call::Dump);
+        match self.random.below(3) {
+            0 => self.start_drill(),
+            1 => self.load_drill(),
+            _ => {
+                self.make(Call::Load(mended));
+                self.try_the_state();
+            }
+        }
+    }
+
+    fn speed_drill(&mut self) {
+        for _ in 0..self.random.between(2, 6) {
+            self.one_speed();
+        }
+    }
+
+    /// The whole state compared, and then a few calls of any kind on it.
+    fn try_the_state(&mut self) {
+        self.make(Call::Dump);
+        if self.random.chance(1, 2) {
+            self.make(Call::Cabin);
+        }
+        for _ in 0..self.random.between(3, 8) {
+            match self.random.below(8) {
+                0 => self.write_something(),
+                1 => self.read_something(),
+                2 => self.result_somewhere(),
+                3 => self.query(),
+                4 => self.flip_pin(),
+                _ => self.pass_ticks(),
+            }
+        }
+    }
+}
+
+// Single calls
+impl Scenario {
+    /// From 0 for channel 1 to 5 for channel 6.
+    fn some_channel(&mut self) -> u32 {
+        self.random.below(CHANNELS as u32)
+    }
+
+    fn channel(&self, index: u32) -> Channel {
+        self.state.channels[index as usize]
+    }
+
+    /// Writes the call's line, makes the call on the model and writes the answer that it expects.
+    fn make(&mut self, call: Call) {
+        if self.random.chance(1, 40) {
+            self.input.push_str(&skipped_line(&mut self.random));
+        }
+        let line = call_line(&mut self.random, call.word(), &call.numbers());
+        self.input.push_str(&line);
+        let before = self.state;
+        let (refusal, answer) = call.make(&mut self.state);
+        self.seen
+            .note(&call, &before, refusal, &answer, &self.state);
+        self.answers.push_str(&answer);
+        self.answers.push('\n');
+    }
+
+    fn write(&mut self, address: u32, byte: u8) {
+        self.make(Call::Write { address, byte });
+    }
+
+    fn write_byte_for(&mut self, address: u32) {
+        let byte = choices::byte_for(&mut self.random, address);
+        self.write(address, byte);
+    }
+
+    fn write_something(&mut self) {
+        let address = choices::address(&mut self.random);
+        self.write_byte_for(address);
+    }
+
+    fn read_something(&mut self) {
+        let address = choices::address(&mut self.random);
+        self.make(Call::Read { address });
+    }
+
+    /// One that does not feed the watchdog.
+    fn refused_access(&mut self) {
+        match self.random.below(4) {
+            0 => self.write(0x11, 0x00),
+            1 => self.write(0x02, 0x80),
+            2 => self.write(0x66, 0x00),
+            _ => self.make(Call::Read { address: 0x0E }),
+        }
+    }
+
+    /// Ticks, and mostly a dump after them.
+    fn pass(&mut self, count: u32) {
+        self.make(Call::Ticks { count });
+        if self.random.chance(7, 10) {
+            self.make(Call::Dump);
+        }
+    }
+
+    fn pass_ticks(&mut self) {
+        let count = choices::span(&mut self.random, &self.state);
+        self.pass(count);
+    }
+
+    fn flip_pin(&mut self) {
+        let keep = self.random.chance(1, 5);
+        let level = self.state.pin == keep;
+        self.make(Call::Pin { level });
+    }
+
+    fn query(&mut self) {
+        let call = self.random.pick(&[Call::Cabin, Call::FanFail, Call::Dump]);
+        self.make(call);
+    }
+
+    /// Both bytes of an output duty.
+    fn read_duty(&mut self, index: u32) {
+        for address in [0x30 + 2 * index, 0x31 + 2 * index] {
+            self.make(Call::Read { address });
+        }
+    }
+
+    /// One byte or both of a target duty, now and then with ticks between the two.
+    fn write_target(&mut self, index: u32) {
+        let word = random_duty(&mut self.random) << 7 | self.random.below(128) as u16;
+        self.write_word(0x40 + 2 * index, word);
+    }
+
+    fn write_target_count(&mut self, index: u32) {
+        let word = random_count(&mut self.random) << 5 | self.random.below(32) as u16;
+        self.write_word(0x50 + 2 * index, word);
+    }
+
+    fn write_word(&mut self, address: u32, word: u16) {
+        let halves = self.random.weighted(&[(6, 3), (2, 2), (1, 1)]);
+        if halves & 2 != 0 {
+            self.write(address, (word >> 8) as u8);
+        }
+        if halves == 3 && self.random.chance(1, 8) {
+            self.pass(1);
+        }
+        if halves & 1 != 0 {
+            self.write(address + 1, word as u8);
+        }
+        if self.random.chance(1, 4) {
+            self.make(Call::Read { address });
+            self.make(Call::Read {
+                address: address + 1,
+            });
+        }
+    }
+
+    fn result(&mut self, index: u32) {
+        let about = self.channel(index);
+        let count = choices::count_about(&mut self.random, &about);
+        let channel = index + 1;
+        self.make(Call::Tachometer { channel, count });
+    }
+
+    /// About as many bad results in a row as the queue is long.
+    fn bad_results(&mut self, index: u32) {
+        let channel = index + 1;
+        let count = u32::from(self.channel(index).target_count) + 1;
+        for _ in 0..u32::from(queue_length(self.state.queue_code())) + self.random.below(3) - 1 {
+            self.make(Call::Tachometer { channel, count });
+        }
+    }
+
+    /// On any channel, or on one that does not exist.
+    fn result_somewhere(&mut self) {
+        let index = self.some_channel();
+        let about = self.channel(index);
+        let count = choices::count_about(&mut self.random, &about);
+        let any = self.random.any();
+        let none = self
+            .random
+            .pick(&[0, 7, 8, 255, 256, 257, 65_537, u32::MAX, any]);
+        let channel = self.random.weighted(&[(3, index + 1), (1, none)]);
+        self.make(Call::Tachometer { channel, count });
+    }
+
+    fn one_speed(&mut self) {
+        let range_code = self.random.below(8);
+        let pulses = self.random.between(1, 4);
+        let count = u32::from(random_count(&mut self.random));
+        // The wrong ones are next to the range, or have a low byte or word in it.
+        let call = Call::Speed {
+            range_code: self.random.weighted(&[(12, range_code), (1, 8), (1, 258)]),
+            pulses: self
+                .random
+                .weighted(&[(18, pulses), (1, 0), (1, 5), (1, 257)]),
+            count: self
+                .random
+                .weighted(&[(18, count), (1, 2048), (1, 65_537), (1, u32::MAX)]),
+        };
+        self.make(call);
+    }
+
+    /// Leaves the channel without an override, and the watchdog mostly off.
+    fn clear_overrides(&mut self, index: u32) {
+        if !self.state.pin {
+            self.make(Call::Pin { level: true });
+        }
+        if self.state.standby() || self.state.watchdog_code() != 0 {
+            let code = self.random.weighted(&[(6, 0), (1, 1), (1, 2), (1, 3)]);
+            self.write(0x00, 0x20 | code << 1);
+        }
+        if self.state.failed_fan_option() != 1 && self.random.chance(3, 4) {
+            let others = self.random.byte() & 0xE3;
+            self.write(0x14, 0x04 | others);
+        }
+        if self.channel(index).monitor_only() {
+            let others = self.random.byte() & 0x6A;
+            self.write(0x02 + index, others);
+        }
+    }
+}
+
+#[cfg(test)]
+mod tests {
+    use super::*;
+
+    /// The lines of a scenario that answer.
+    fn answered(input: &str) -> usize {
+        let words = input.lines().map(str::trim);
+        words
+            .filter(|text| !text.is_empty() && !text.starts_with('#'))
+            .count()
+    }
+
+    #[test]
+    fn a_seed_always_gives_the_same_scenario() {
+        let (first, second) = (scenario(12, 500), scenario(12, 500));
+        assert_eq!(first.input, second.input);
+        assert_eq!(first.answers, second.answers);
+        assert_ne!(first.input, scenario(13, 500).input);
+    }
+
+    #[test]
+    fn every_call_has_its_answer() {
+        for (seed, calls) in [(1, 1), (2, 10), (3, 3000), (4, 3000)] {
+            let made = scenario(seed, calls);
+            assert!(made.seen.calls >= calls);
+            assert_eq!(answered(&made.input), made.seen.calls);
+            assert_eq!(made.answers.lines().count(), made.seen.calls);
+        }
+    }
+
+    #[test]
+    fn a_scenario_of_some_length_meets_every_part_of_the_paper() {
+        let seen = scenario(1, 20_000).seen;
+        assert!(seen.answers.iter().all(|&times| times >= 30));
+        assert!(seen.results.iter().all(|&times| times >= 100));
+        assert!(seen.lines.iter().all(|&times| times >= 200));
+        assert!(seen.faults_raised >= 150 && seen.faults_cleared >= 100);
+        assert!(seen.fan_fail_asserted >= 80);
+        assert!(seen.expiries >= 200 && seen.expiries_ended >= 200);
+        assert!(seen.spin_ups_begun >= 400);
+        assert!(seen.clock_wraps >= 100 && seen.resets >= 40);
+        assert!(seen.sound_loads >= 200 && seen.flawed_loads >= 4 * FLAWS.len());
+    }
+
+    #[test]
+    fn five_thousand_calls_stay_small() {
+        for seed in 1..=3 {
+            let made = scenario(seed, 5000);
+            assert!(made.input.len() + made.answers.len() < 700_000);
+        }
+    }
+}
