@@ -1,3 +1,4 @@
-// What every call needs of a state: whether it is valid, and which duty comes out of a channel.
+// What the calls share: whether a state is valid, which duty comes out of a channel, and the answer that gives a state back.
+pub mod answer;
 pub mod duty;
 pub mod valid;

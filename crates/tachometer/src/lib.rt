@@ -5,8 +5,8 @@ ghost use Prim.Native.Nat.{_+_, _<_, min};
 ghost use Rattle.rules.specs.State.{withResults};
 ghost use Rattle.rules.specs.Registers.{queueCode};
 ghost use Rattle.rules.specs.Valid.{validOf};
-ghost use Rattle.rules.specs.Calls.{answer};
 ghost use Rattle.rules.specs.Tachometer.{queueLength, storedCount, judged, isBad, badResult, resultTaken, withResult, isChannel, resultOf};
+use device::answer::answered;
 use device::duty::conditions;
 use device::duty::output_duty;
 use device::valid::valid;
@@ -112,15 +112,6 @@ fn is_channel(number: u32) -> bool
     ensures { λ r. ⌜ r ≡ isChannel number ⌝ }
 {
     (1 <= number) & (number <= 6)
-}
-
-fn answered(refusal: u8, state: State) -> Answer
-    ensures { λ r. ⌜ r ≡ answer refusal state ⌝ }
-{
-    Answer {
-        refusal: refusal,
-        state: state,
-    }
 }
 
 // A result of channel 1 to 6: how many clocks of 8,192 Hz were counted.

@@ -6,8 +6,8 @@ ghost use Prim.Native.Nat.{_<_};
 ghost use Rattle.rules.specs.declared.BoxRegister.the-variants.{Control};
 ghost use Rattle.rules.specs.declared.ChannelRegister.the-variants.{Config};
 ghost use Rattle.rules.specs.Valid.{validOf};
-ghost use Rattle.rules.specs.Calls.{answer};
 ghost use Rattle.rules.specs.Write.{stopped, channelWritten, byteRefused, boxWritten, ownWritten, writeOf};
+use device::answer::answered;
 use device::valid::valid;
 use registers::access::accessed;
 use registers::kept::config_refused;
@@ -159,15 +159,6 @@ fn own_written(state: State, byte: u8, register: ChannelRegister, i: usize) -> S
     let mut next = state;
     next.channels[i] = channel_written(state.channels[i], byte, register);
     next
-}
-
-fn answered(refusal: u8, state: State) -> Answer
-    ensures { λ r. ⌜ r ≡ answer refusal state ⌝ }
-{
-    Answer {
-        refusal: refusal,
-        state: state,
-    }
 }
 
 // A byte goes to an address.
