@@ -1,0 +1,63 @@
+-- Bytes put into a buffer: past its end nothing is stored, and what is put in two parts is put whole.
+use Prim.Native.Nat.{ℕ, suc, _+_, _≤_, _<_, min, max}
+use mathlib.Core.Path.{_≡_, refl, sym, _∙_}
+use mathlib.Core.List.{List, [], _∷_, _++_}
+use native.Mathlib.Decide.{decLt}
+use native.Mathlib.Omega.{arith}
+use native.Mathlib.Numerals.{add-one}
+use lib.ListN.{length, getD, take, drop, set, length-set, length-append, drop-of-length-le}
+use lib.Seq.{sets, length-sets, set-out, sets-eq, drop-cons}
+use Rattle.text.specs.Put.{Put}
+
+pub sets-out : (out : List ℕ) (at : ℕ) (bytes : List ℕ) → length out ≤ at → sets out at bytes ≡ out
+sets-out out at [] h = refl
+sets-out out at (byte ∷ bytes) h =
+    rw (set-out out at byte h) (sets-out out (suc at) bytes (omega arith))
+
+-- the second part goes where the first ended; where that found no room, nowhere
+parts-out : (out : List ℕ) (at next : ℕ) (first second : List ℕ) → length out ≤ at → length out ≤ next →
+    sets out at (first ++ second) ≡ sets (sets out at first) next second
+parts-out out at next first second h g =
+    rw (sets-out out at (first ++ second) h, sets-out out at first h) (sym (sets-out out next second g))
+
+parts-within : (first second out : List ℕ) (at next : ℕ) → at ≤ length out → next ≡ min (at + length first) (length out) →
+    sets out at (first ++ second) ≡ sets (sets out at first) next second
+parts-within [] second out at next h e = let n : next ≡ at = omega arith in rw n
+parts-within (byte ∷ first) second out at next h e =
+    elim (decLt at (length out)) [
+      | yes l ↦
+          parts-within first second (set out at byte) (suc at) next (rw length-set l)
+          (rw length-set (omega arith))
+      | no g ↦ parts-out out at next (byte ∷ first) second (omega arith) (omega arith)
+    ]
+
+parts : (first second out : List ℕ) (at next : ℕ) → next ≡ max at (min (at + length first) (length out)) →
+    sets out at (first ++ second) ≡ sets (sets out at first) next second
+parts first second out at next e =
+    elim (decLt (length out) at) [
+      | yes l ↦ parts-out out at next first second (omega arith) (omega arith)
+      | no g ↦ parts-within first second out at next (omega arith) (omega arith)
+    ]
+
+pub put-append : {at next last : ℕ} {before between after first second : List ℕ} →
+    Put first at before between next → Put second next between after last → Put (first ++ second) at before after last
+put-append {at} {next} {last} {before} {between} {after} {first} {second} p q =
+    record {
+      stored = q .stored ∙ rw (p .stored) (sym (parts first second before at next (p .index)));
+      index =
+          let n : length between ≡ length before = rw (p .stored) (length-sets before at first) in
+          rw length-append (omega arith);
+    }
+
+-- where there is room, the bytes stand from the index on, and the rest is as it was
+pub put-with-room : {at next : ℕ} {before after bytes : List ℕ} → Put bytes at before after next → at + length bytes ≤ length before →
+    (after ≡ take at before ++ bytes ++ drop (at + length bytes) before) × (next ≡ at + length bytes)
+put-with-room {at} {next} {before} {after} {bytes} p h = (p .stored ∙ sets-eq bytes before at h, omega arith)
+
+-- one byte more stored, and none left
+pub sets-next : (out bytes : List ℕ) (at i : ℕ) → i < length bytes →
+    sets out at (drop i bytes) ≡ sets (set out at (getD bytes i 0)) (at + 1) (drop (i + 1) bytes)
+sets-next out bytes at i h = rw (add-one i, add-one at, drop-cons bytes i 0 h)
+
+pub sets-done : (out bytes : List ℕ) (at i : ℕ) → length bytes ≤ i → sets out at (drop i bytes) ≡ out
+sets-done out bytes at i h = rw (drop-of-length-le bytes h)

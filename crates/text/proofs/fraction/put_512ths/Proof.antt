@@ -1,0 +1,49 @@
+-- `fraction::put_512ths` meets its contract. Assumes nothing.
+use mathlib.Core.Path.{sym}
+use borrow.Author.Needs.{needs}
+use Rattle.text.specs.Fraction.{nineDecimals}
+use Rattle.text.proofs.Stores.{put-append}
+use Rattle.text.proofs.fraction.put_512ths.Statement.{statement}
+use Rattle.text.proofs.fraction.put_512ths.Tie as tie
+
+parts-requires : tie.Need-parts-requires
+parts-requires c κs = search needs
+
+put-digits-requires : tie.Need-put-digits-requires
+put-digits-requires c κs = search needs
+
+slice-aggregate-put : tie.Need-slice-aggregate-put
+slice-aggregate-put c = search needs
+
+put-requires : tie.Need-put-requires
+put-requires c κs = search needs
+
+mul-put-digits : tie.Need-mul-put-digits
+mul-put-digits c = search needs
+
+put-digits-requires-2 : tie.Need-put-digits-requires-2
+put-digits-requires-2 c κs = search needs
+
+same-length : tie.Need-same-length
+same-length c = search needs
+
+returns : tie.Need-returns
+unfolding nineDecimals
+returns c =
+    let point = c .before .before .before .before .before .before in
+    let whole = point .before .before .before .before .before in
+    rw (sym (whole .before .before .parts .ensures))
+    (put-append (whole .put-digits .ensures) (put-append (point .put .ensures) (c .before .before .put-digits2 .ensures)))
+
+pub put-512ths-spec : {M : Type 1} → statement M
+put-512ths-spec =
+    tie.close
+    (tie.spec
+    parts-requires
+    put-digits-requires
+    slice-aggregate-put
+    put-requires
+    mul-put-digits
+    put-digits-requires-2
+    same-length
+    returns)

@@ -1,0 +1,5 @@
+pub mod Number
+pub mod Words
+pub mod Put
+pub mod Decimal
+pub mod Fraction

@@ -1,0 +1,54 @@
+-- The words of a line.
+use Prim.Native.Nat.{ℕ, suc, _-_, _≤_, _<_}
+use mathlib.Core.Path.{_≡_}
+use mathlib.Core.Bool.{Bool, true, Bool·beq, cond, _||_}
+use mathlib.Core.List.{List, [], _∷_}
+use lib.ListN.{length, getD, take, drop}
+use lib.Dec.{eqb}
+use Rattle.text.specs.declared.words.Word.{Word}
+use Rattle.text.specs.declared.words.Word.the-variants.{At, Nothing}
+
+-- "Words are separated by spaces or tabs"
+abbrev pub isBlank : ℕ → Bool
+isBlank byte = eqb byte 32 || eqb byte 9
+
+-- no word goes on here: the line ends, or a blank comes first
+abbrev pub parted : List ℕ → Bool
+parted [] = true
+parted (byte ∷ line) = isBlank byte
+
+-- words whose first begins with one byte more
+abbrev pub lengthened : ℕ → List (List ℕ) → List (List ℕ)
+lengthened byte [] = (byte ∷ []) ∷ []
+lengthened byte (word ∷ words) = (byte ∷ word) ∷ words
+
+-- the words of a line, in their order: a blank adds nothing, and any other byte is a word of its own or lengthens the next
+unfoldable pub wordsOf : List ℕ → List (List ℕ)
+wordsOf [] = []
+wordsOf (byte ∷ line) =
+    cond (isBlank byte) (wordsOf line)
+    (cond (parted line) ((byte ∷ []) ∷ wordsOf line) (lengthened byte (wordsOf line)))
+
+-- how many bytes a line begins with that are blank; or that are not
+unfoldable pub runOf : Bool → List ℕ → ℕ
+runOf blank [] = 0
+runOf blank (byte ∷ line) = cond (Bool·beq (isBlank byte) blank) (suc (runOf blank line)) 0
+
+-- the words that begin with the one that was found
+abbrev pub wordsFrom : List ℕ → Word → List (List ℕ)
+wordsFrom line Nothing = []
+wordsFrom line (At begin end) = take (end - begin) (drop begin line) ∷ wordsOf (drop end line)
+
+-- a word that was found lies in the line, from an index on, and has a byte
+abbrev pub Lies : List ℕ → ℕ → Word → Type 0
+Lies line from Nothing = Unit {0}
+Lies line from (At begin end) = (from ≤ begin) × (begin < end) × (end ≤ length line)
+
+-- the first word of a line from an index on
+pub record Finds (line : List ℕ) (from : ℕ) (word : Word) : Type 0 where
+  pub words : wordsOf (drop from line) ≡ wordsFrom line word
+  pub lies : Lies line from word
+
+-- "A carriage return before the line's end is ignored": how many bytes of a line count
+unfoldable pub counted : List ℕ → ℕ
+counted line = cond (eqb (getD line (length line - 1) 0) 13) (length line - 1) (length line)

@@ -1,0 +1,19 @@
+// Bytes into a lent buffer.
+ghost use Rattle.text.specs.Put.{Put};
+
+// Puts bytes into a buffer from an index on, as many as there is room for, and gives the index after them.
+pub fn put(bytes: &[u8], out: &mut [u8], at: usize) -> usize
+    ensures { λ r. ⌜ Put (now (bytes .entry)) at (now (out .entry)) (now (out .exit)) r ⌝ }
+{
+    let mut next = at;
+    let mut i = 0;
+    while i < bytes.len() {
+        if out.len() <= next {
+            return next;
+        }
+        out[next] = bytes[i];
+        next += 1;
+        i += 1;
+    }
+    next
+}
