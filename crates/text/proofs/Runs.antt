@@ -11,8 +11,8 @@ use lib.Dec.{eqb}
 use borrow.Author.Tests.{eq-eqb, ne-eqb}
 use Rattle.text.proofs.Tests.{by-test}
 use Rattle.text.specs.Words.{isBlank, wordsOf, runOf, lengthened, counted, Finds}
-use Rattle.text.specs.declared.words.Word.{Word}
-use Rattle.text.specs.declared.words.Word.the-variants.{At, Nothing}
+use Rattle.text.specs.declared.line.Word.{Word}
+use Rattle.text.specs.declared.line.Word.the-variants.{At, Nothing}
 
 pub run-more : (blank : Bool) (byte : ℕ) (line : List ℕ) → Bool·beq (isBlank byte) blank ≡ true → runOf blank (byte ∷ line) ≡ suc (runOf blank line)
 unfolding runOf

@@ -61,3 +61,40 @@ sets-next out bytes at i h = rw (add-one i, add-one at, drop-cons bytes i 0 h)
 
 pub sets-done : (out bytes : List ℕ) (at i : ℕ) → length bytes ≤ i → sets out at (drop i bytes) ≡ out
 sets-done out bytes at i h = rw (drop-of-length-le bytes h)
+
+-- ---- bytes put part by part: what is still to be put makes of the buffer what all of them make of it
+pub record Remains (rest : List ℕ) (next : ℕ) (out bytes : List ℕ) (at : ℕ) (before : List ℕ) : Type 0 where
+  pub stored : sets out next rest ≡ sets before at bytes
+  pub index : max next (min (next + length rest) (length out)) ≡ max at (min (at + length bytes) (length before))
+  pub long : length out ≡ length before
+
+pub all-remains : (bytes : List ℕ) (at : ℕ) (out : List ℕ) → Remains bytes at out bytes at out
+all-remains bytes at out = record { stored = refl; index = refl; long = refl }
+
+-- where the second part ends is where both end
+both-end : (next last first rest long : ℕ) → last ≡ max next (min (next + first) long) →
+    max last (min (last + rest) long) ≡ max next (min (next + (first + rest)) long)
+both-end next last first rest long e =
+    elim (decLt long next) [
+      | yes l ↦ let q : last ≡ next = omega arith in rw q (omega arith)
+      | no g ↦ let q : last ≡ min (next + first) long = omega arith in rw q (omega arith)
+    ]
+
+module _ {out bytes before : List ℕ} {next at : ℕ} where
+  pub part-put : (first rest : List ℕ) {after : List ℕ} {last : ℕ} → Remains (first ++ rest) next out bytes at before →
+      Put first next out after last → Remains rest last after bytes at before
+  part-put first rest {after} {last} r p =
+      let same : length after ≡ length out = rw (p .stored) (length-sets out next first) in
+      record {
+        stored = rw (p .stored) (sym (parts first rest out next last (p .index)) ∙ r .stored);
+        index =
+            rw same
+            (both-end next last (length first) (length rest) (length out) (p .index) ∙ rw length-append at (r .index));
+        long = same ∙ r .long;
+      }
+
+  pub none-remains : Remains [] next out bytes at before → Put bytes at before out next
+  none-remains r = record { stored = r .stored; index = omega (arith, r .index) }
+
+pub put-length : {at next : ℕ} {before after bytes : List ℕ} → Put bytes at before after next → length after ≡ length before
+put-length {at} {next} {before} {after} {bytes} p = rw (p .stored) (length-sets before at bytes)

@@ -5,8 +5,8 @@ use mathlib.Core.Bool.{Bool, true, Bool·beq, cond, _||_}
 use mathlib.Core.List.{List, [], _∷_}
 use lib.ListN.{length, getD, take, drop}
 use lib.Dec.{eqb}
-use Rattle.text.specs.declared.words.Word.{Word}
-use Rattle.text.specs.declared.words.Word.the-variants.{At, Nothing}
+use Rattle.text.specs.declared.line.Word.{Word}
+use Rattle.text.specs.declared.line.Word.the-variants.{At, Nothing}
 
 -- "Words are separated by spaces or tabs"
 abbrev pub isBlank : ℕ → Bool

@@ -1,0 +1,4 @@
+// The calls as a line asks for them, and their answers as text. specs/ says what they are.
+pub mod calls;
+pub mod image;
+pub mod numbers;

@@ -1,0 +1,3 @@
+pub mod Verbs
+pub mod Taking
+pub mod Parsing

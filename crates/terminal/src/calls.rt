@@ -1,0 +1,43 @@
+// Which call a command is.
+use crate::help::put_help;
+use crate::show::put_show;
+use answers::calls::Reply;
+use answers::calls::cabin_call;
+use answers::calls::dump_call;
+use answers::calls::fan_fail_call;
+use answers::calls::load_call;
+use answers::calls::pin_call;
+use answers::calls::read_call;
+use answers::calls::replied;
+use answers::calls::speed_call;
+use answers::calls::start_call;
+use answers::calls::tach_call;
+use answers::calls::ticks_call;
+use answers::calls::write_call;
+use commands::Verb;
+use rules::State;
+
+// Commands that tell of the state and leave it as it is.
+fn tell(verb: Verb, state: State, out: &mut [u8], at: usize) -> Reply {
+    match verb {
+        Verb::Cabin => cabin_call(state, out, at),
+        Verb::FanFail => fan_fail_call(state, out, at),
+        Verb::Dump => dump_call(state, out, at),
+        Verb::Show => replied(state, put_show(state, out, at)),
+        _ => replied(state, put_help(out, at)),
+    }
+}
+
+pub fn call(verb: Verb, state: State, values: &[u32], out: &mut [u8], at: usize) -> Reply {
+    match verb {
+        Verb::Start => start_call(values, out, at),
+        Verb::Write => write_call(state, values, out, at),
+        Verb::Read => read_call(state, values, out, at),
+        Verb::Ticks => ticks_call(state, values, out, at),
+        Verb::Tach => tach_call(state, values, out, at),
+        Verb::Pin => pin_call(state, values, out, at),
+        Verb::Speed => speed_call(state, values, out, at),
+        Verb::Load => load_call(values, out, at),
+        _ => tell(verb, state, out, at),
+    }
+}

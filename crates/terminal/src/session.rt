@@ -1,0 +1,182 @@
+// The input, block by block, and the output, gathered until the program waits for more input.
+ghost use mathlib.Core.Path.{_≡_};
+ghost use Prim.Native.Nat.{_≤_};
+ghost use lib.ListN.{length};
+use crate::lines::Gathered;
+use crate::lines::answer;
+use crate::lines::gather;
+use rules::State;
+
+// No answer is longer than this.
+const LONGEST_ANSWER: usize = 4096;
+
+// What goes from one block to the next: the state in hand, how many lines have ended, the line that has not, and how
+// much of the output is not yet written.
+struct Session {
+    state: State,
+    lines: u32,
+    kept: usize,
+    total: usize,
+    at: usize,
+}
+
+// "Before the first `start` or `load` the state in hand is the one that a refused start gives": no watchdog code is 4.
+fn begin() -> Session
+    ensures { λ r. ⌜ r .kept ≡ 0 ⌝ }
+{
+    let refused = start::start(4, 0, 0, 0);
+    let state = refused.state;
+    Session {
+        state: state,
+        lines: 0,
+        kept: 0,
+        total: 0,
+        at: 0,
+    }
+}
+
+fn next_line(lines: u32) -> u32 {
+    if lines < 4294967295 {
+        return lines + 1;
+    }
+    lines
+}
+
+fn least(a: usize, b: usize) -> usize
+    ensures { λ r. ⌜ r ≤ b ⌝ }
+{
+    if a < b { a } else { b }
+}
+
+// Writes the output so far, and gives the index to go on at.
+fn flush(output: i32, out: &[u8], at: usize) -> usize {
+    let end = least(at, out.len());
+    io::write_all(output, &out[..end]);
+    0
+}
+
+// Writes the output so far where it may have no room for another answer.
+fn make_room(output: i32, out: &[u8], at: usize) -> usize {
+    if out.len() < LONGEST_ANSWER {
+        return flush(output, out, at);
+    }
+    if out.len() - LONGEST_ANSWER < at {
+        return flush(output, out, at);
+    }
+    at
+}
+
+// Answers a line that has ended.
+fn end_line(output: i32, line: &[u8], out: &mut [u8], session: Session) -> Session
+    requires { ⌜ session .kept ≤ length (now line) ⌝ }
+    ensures { λ r. ⌜ r .kept ≡ 0 ⌝ }
+{
+    let lines = next_line(session.lines);
+    let gathered = Gathered {
+        kept: session.kept,
+        total: session.total,
+    };
+    let reply = answer(line, gathered, lines, session.state, out, session.at);
+    let state = reply.state;
+    let at = make_room(output, out, reply.at);
+    Session {
+        state: state,
+        lines: lines,
+        kept: 0,
+        total: 0,
+        at: at,
+    }
+}
+
+// The index of the next line feed, or the length where there is none.
+fn feed_after(block: &[u8], from: usize) -> usize
+    requires { ⌜ from ≤ length (now block) ⌝ }
+    ensures { λ r. ⌜ (from ≤ r) × (r ≤ length (now (block .entry))) ⌝ }
+{
+    let mut i = from;
+    while i < block.len() {
+        if block[i] == b'\n' {
+            return i;
+        }
+        i += 1;
+    }
+    i
+}
+
+fn add(bytes: &[u8], line: &mut [u8], session: Session) -> Session
+    requires { ⌜ session .kept ≤ length (now line) ⌝ }
+    ensures { λ r. ⌜ r .kept ≤ length (now (line .entry)) ⌝ }
+{
+    let gathered = Gathered {
+        kept: session.kept,
+        total: session.total,
+    };
+    let more = gather(bytes, line, gathered);
+    let mut next = session;
+    next.kept = more.kept;
+    next.total = more.total;
+    next
+}
+
+// Answers the lines that end in a block, and gathers the one that does not.
+fn take_block(
+    output: i32,
+    block: &[u8],
+    line: &mut [u8],
+    out: &mut [u8],
+    session: Session,
+) -> Session {
+    let mut next = session;
+    let mut from = 0;
+    while from < block.len() {
+        let to = feed_after(block, from);
+        next = add(&block[from..to], line, next);
+        if to < block.len() {
+            next = end_line(output, line, out, next);
+        }
+        from = to + 1;
+    }
+    next
+}
+
+// Answers a last line without a line feed.
+fn finish(output: i32, line: &[u8], out: &mut [u8], session: Session)
+    requires { ⌜ session .kept ≤ length (now line) ⌝ }
+{
+    let total = session.total;
+    let mut last = session;
+    if 0 < total {
+        last = end_line(output, line, out, session);
+    }
+    flush(output, out, last.at);
+}
+
+// Reads lines from one descriptor until it ends, and writes their answers to the other. What has been answered is written
+// before each read, so that another program can wait for it.
+pub fn run(input: i32, output: i32) {
+    let mut block_space = io::large_buffer();
+    let block: &mut [u8] = &mut block_space;
+    let mut line_space = [0u8; 4097];
+    let line: &mut [u8] = &mut line_space;
+    let mut out_space = io::large_buffer();
+    let out: &mut [u8] = &mut out_space;
+    let mut session = begin();
+    // A proved loop has to end, and nothing says that the input does: this counts down from more reads than any run makes.
+    let mut turns = 18446744073709551615u64;
+    while 0 < turns {
+        let n = read_block(input, block);
+        if n == 0 {
+            break;
+        }
+        session = take_block(output, &block[..n], line, out, session);
+        let at = flush(output, out, session.at);
+        session.at = at;
+        turns -= 1;
+    }
+    finish(output, line, out, session);
+}
+
+fn read_block(input: i32, block: &mut [u8]) -> usize {
+    let got = libc::read(input, block);
+    io::count(got, block)
+}
