@@ -1,57 +1,19 @@
--- An f64 that is a number of 512ths exactly: the machine's division by 512 is exact below 2 ^ 53, so comparing with it counts them.
+-- An f64 that is a number of 512ths exactly: a number divided by 512 is exact below 2 ^ 53, so comparing with it counts them.
 use Prim.Native.Nat.{ℕ, zero, suc, _+_, _-_, _*_, _/_, _%_, _^_, _≤_, _<_}
-use mathlib.Core.Path.{_≡_, refl, sym, ap, _∙_, subst}
-use mathlib.Core.Bool.{Bool, true, false, cond, _&&_, _||_}
-use native.Mathlib.Nat.{two-pow-succ, mul-comm, mul-assoc, mul-right-comm, mul-pos, one-mul, lt-of-lt-of-le, le-of-lt, mul-lt-mul-of-pos-right, mul-le-mul-right}
+use mathlib.Core.Path.{_≡_, sym, _∙_}
+use mathlib.Core.Bool.{true, false, cond, _&&_, _||_}
+use native.Mathlib.Nat.{two-pow-succ, mul-comm, mul-assoc, mul-right-comm, mul-pos, mul-lt-mul-of-pos-right, mul-le-mul-right}
 use native.Mathlib.Decide.{decLt}
 use native.Mathlib.Omega.{arith}
 use lib.Dec.{leb, ltb, eqb}
-use lib.IntN.{pos}
-use lib.Pow.{pow-add, pow-pos, pow-mono, shl-lt}
-use lib.Ieee.{Float, nan, inf, fin, binary64, up, down, unlike, round, ofInt, div, le, lt, eq}
-use lib.Ieee.Exact.{HasValue, round-exact}
-use lib.Ieee.Digits.{back}
+use lib.Pow.{pow-pos}
+use lib.Ieee.{Float, nan, inf, fin, up, down, le, lt, eq}
+use lib.Ieee.Exact.{HasValue}
 use lib.Ieee.Fits.{down-pos}
-use lib.Ieee.Back.{round-whole}
-use lib.Ieee.Scale.{round-same}
 use borrow.Author.Tests.{lt-ltb, le-ltb, le-leb, lt-leb, eq-eqb, ne-eqb}
-use Rattle.text.specs.Fraction.{over512, partsAfter, partsOf}
-
--- n / 2 ^ k is a binary64 value, for every n below 2 ^ 53
-exact : (n k : ℕ) → n < 2 ^ 53 → k ≤ 1074 → HasValue (round binary64 false n (2 ^ k)) false n (2 ^ k)
-exact n k h g =
-    let e : 2 ^ (1074 - k) * 2 ^ k ≡ 2 ^ 1074 = sym (pow-add 2 (1074 - k) k) ∙ ap (λ (x : ℕ). 2 ^ x) (back 1074 k g) in
-    let b : 53 + (1074 - k) ≤ 2098 = omega arith in
-    round-exact binary64 false n (2 ^ k) n (1074 - k) (pow-pos k) h
-    (lt-of-lt-of-le (shl-lt 53 (1074 - k) h) (pow-mono b))
-    (ap (λ (x : ℕ). n * x) (sym e) ∙ sym (mul-assoc n (2 ^ (1074 - k)) (2 ^ k)))
-
-unlike-plus : (t : Bool) → unlike t false ≡ t
-unlike-plus false = refl
-unlike-plus true = refl
-
-regroup : (n d p : ℕ) → n * d * p ≡ n * (1 * p * d)
-regroup n d p = mul-assoc n d p ∙ ap (λ (x : ℕ). n * x) (mul-comm d p ∙ ap (λ (x : ℕ). x * d) (sym (one-mul p)))
-
--- a whole number over 2 ^ k, as the machine divides, is the fraction rounded
-divided : (x : Float) (n k : ℕ) → HasValue x false n 1 → div binary64 x (fin false 1 (pos k)) ≡ round binary64 false n (2 ^ k)
-unfolding div
-divided nan n k v = absurd v
-divided (inf t) n k v = absurd v
-divided (fin t m e) n k v =
-    ap (λ (z : Bool). round binary64 z (m * up e * 1) (1 * 2 ^ k * down e)) (unlike-plus t ∙ v .0)
-    ∙ round-same binary64 false (m * up e * 1) (1 * 2 ^ k * down e) n (2 ^ k) (mul-pos (mul-pos one (pow-pos k)) (down-pos e)) (pow-pos k)
-    (ap (λ (z : ℕ). z * 2 ^ k) (v .1) ∙ regroup n (down e) (2 ^ k))
-  where
-    one : 0 < 1
-    one = omega arith
-
-pub over-exact : (n : ℕ) → n < 2 ^ 53 → HasValue (over512 n) false n 512
-unfolding over512 ofInt
-over-exact n h =
-    subst (λ (x : Float). HasValue x false n 512)
-    (sym (divided (ofInt binary64 (pos n)) n 9 (round-whole binary64 false n (le-of-lt h))))
-    (exact n 9 h (omega arith))
+use Rattle.rules.specs.Reading.{over512}
+use Rattle.rules.proofs.Exact.{over-512-exact}
+use Rattle.text.specs.Fraction.{partsAfter, partsOf}
 
 -- ---- values of one denominator are in the order of their numerators
 scaled : (p q d : ℕ) → 0 < d → leb p q ≡ leb (p * d) (q * d)
@@ -120,7 +82,7 @@ counted zero m n x v low high room = omega arith
 counted (suc bits) m n x v low high room =
     let half = two-pow-succ bits in
     let order : le (over512 (m + 2 ^ bits)) x ≡ leb (m + 2 ^ bits) n =
-    in-order (over512 (m + 2 ^ bits)) x (m + 2 ^ bits) n 512 (omega arith) (over-exact (m + 2 ^ bits) (omega (arith, pow-pos bits))) v in
+    in-order (over512 (m + 2 ^ bits)) x (m + 2 ^ bits) n 512 (omega arith) (over-512-exact (m + 2 ^ bits) (omega (arith, pow-pos bits))) v in
     elim (decLt n (m + 2 ^ bits)) [
       | yes l ↦ rw (order, lt-leb (m + 2 ^ bits) n l) (counted bits m n x v low l (omega arith))
       | no g ↦ rw (order, le-leb (m + 2 ^ bits) n (omega arith)) (counted bits (m + 2 ^ bits) n x v (omega arith) (omega arith) (omega arith))

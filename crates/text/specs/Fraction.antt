@@ -1,14 +1,10 @@
 -- An f64 in decimal, where it counts 512ths: "each with exactly nine decimals, as `8388607.998046875`, `0.996093750`, `1.000000000`".
 use Prim.Native.Nat.{ℕ, zero, suc, _+_, _*_, _/_, _%_, _^_}
-use mathlib.Core.Bool.{false, cond}
+use mathlib.Core.Bool.{cond}
 use mathlib.Core.List.{List, _∷_, _++_}
-use lib.IntN.{pos}
-use lib.Ieee.{Float, fin, binary64, ofInt, div, le}
+use lib.Ieee.{Float, le}
+use Rattle.rules.specs.Reading.{over512}
 use Rattle.text.specs.Decimal.{digitsOf, decimalOf}
-
--- n divided by 512, as the machine does it
-unfoldable pub over512 : ℕ → Float
-over512 n = div binary64 (ofInt binary64 (pos n)) (fin false 1 (pos 9))
 
 -- the most 512ths that are not above x, among n and the 2 ^ bits - 1 after it
 unfoldable pub partsAfter : ℕ → ℕ → Float → ℕ

@@ -2,7 +2,8 @@
 ghost use mathlib.Core.Path.{_≡_};
 ghost use Prim.Native.Nat.{_<_, _^_};
 ghost use Rattle.text.specs.Put.{Put};
-ghost use Rattle.text.specs.Fraction.{over512, partsOf, nineDecimals};
+ghost use Rattle.rules.specs.Reading.{over512};
+ghost use Rattle.text.specs.Fraction.{partsOf, nineDecimals};
 use crate::decimal::put_digits;
 use crate::put::put;
 

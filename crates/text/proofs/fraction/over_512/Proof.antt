@@ -1,8 +1,7 @@
 -- `fraction::over_512` meets its contract. Assumes nothing.
-use mathlib.Core.Path.{refl}
 use native.Mathlib.Omega.{arith}
 use lib.Dec.{le→leb}
-use Rattle.text.specs.Fraction.{over512}
+use Rattle.rules.proofs.Exact.{divided-by-512}
 use Rattle.text.proofs.fraction.over_512.Statement.{statement}
 use Rattle.text.proofs.fraction.over_512.Tie as tie
 
@@ -11,8 +10,8 @@ unfolding lib.Ieee.inFloat
 int-to-float-result c = le→leb (c .before .args .n) _ (omega arith)
 
 returns : tie.Need-returns
-unfolding over512 lib.Ieee.ofBits
-returns c = refl
+unfolding lib.Ieee.ofBits
+returns c = divided-by-512 (c .before .args .n) (omega arith)
 
 pub over-512-spec : {M : Type 1} → statement M
 over-512-spec = tie.close (tie.spec int-to-float-result returns)
