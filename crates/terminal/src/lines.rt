@@ -47,6 +47,21 @@ fn one_more(total: usize) -> usize {
     total
 }
 
+// Keeps a byte of a line, and gives how many are kept then.
+fn keep(byte: u8, line: &mut [u8], kept: usize) -> usize
+    requires { ⌜ kept ≤ length (now line) ⌝ }
+    ensures { λ r. ⌜ r ≤ length (now (line .entry)) ⌝ }
+{
+    if is_before(kept, byte) {
+        return kept;
+    }
+    if kept < line.len() {
+        line[kept] = byte;
+        return kept + 1;
+    }
+    kept
+}
+
 // Adds bytes to a line.
 pub fn gather(bytes: &[u8], line: &mut [u8], gathered: Gathered) -> Gathered
     requires { ⌜ gathered .kept ≤ length (now line) ⌝ }
@@ -56,14 +71,8 @@ pub fn gather(bytes: &[u8], line: &mut [u8], gathered: Gathered) -> Gathered
     let mut total = gathered.total;
     let mut i = 0;
     while i < bytes.len() {
-        let byte = bytes[i];
+        kept = keep(bytes[i], line, kept);
         total = one_more(total);
-        if !is_before(kept, byte) {
-            if kept < line.len() {
-                line[kept] = byte;
-                kept += 1;
-            }
-        }
         i += 1;
     }
     Gathered {

@@ -2,6 +2,7 @@
 ghost use mathlib.Core.Path.{_≡_};
 ghost use Prim.Native.Nat.{_≤_};
 ghost use lib.ListN.{length};
+ghost use Rattle.io.specs.Counts.{Counts};
 use crate::lines::Gathered;
 use crate::lines::answer;
 use crate::lines::gather;
@@ -88,6 +89,17 @@ fn end_line(output: i32, line: &[u8], out: &mut [u8], session: Session) -> Sessi
     }
 }
 
+// Answers the line if it has ended.
+fn end_line_if(ended: bool, output: i32, line: &[u8], out: &mut [u8], session: Session) -> Session
+    requires { ⌜ session .kept ≤ length (now line) ⌝ }
+    ensures { λ r. ⌜ r .kept ≤ length (now (line .entry)) ⌝ }
+{
+    if ended {
+        return end_line(output, line, out, session);
+    }
+    session
+}
+
 // The index of the next line feed, or the length where there is none.
 fn feed_after(block: &[u8], from: usize) -> usize
     requires { ⌜ from ≤ length (now block) ⌝ }
@@ -125,15 +137,16 @@ fn take_block(
     line: &mut [u8],
     out: &mut [u8],
     session: Session,
-) -> Session {
+) -> Session
+    requires { ⌜ session .kept ≤ length (now line) ⌝ }
+    ensures { λ r. ⌜ r .kept ≤ length (now (line .entry)) ⌝ }
+{
     let mut next = session;
     let mut from = 0;
     while from < block.len() {
         let to = feed_after(block, from);
         next = add(&block[from..to], line, next);
-        if to < block.len() {
-            next = end_line(output, line, out, next);
-        }
+        next = end_line_if(to < block.len(), output, line, out, next);
         from = to + 1;
     }
     next
@@ -143,12 +156,23 @@ fn take_block(
 fn finish(output: i32, line: &[u8], out: &mut [u8], session: Session)
     requires { ⌜ session .kept ≤ length (now line) ⌝ }
 {
-    let total = session.total;
-    let mut last = session;
-    if 0 < total {
-        last = end_line(output, line, out, session);
-    }
+    let last = end_line_if(0 < session.total, output, line, out, session);
     flush(output, out, last.at);
+}
+
+// Reads as much as there is, and gives how much, which is nothing at the end.
+fn read_block(input: i32, block: &mut [u8]) -> usize
+    ensures { λ r. ⌜ Counts r (now (block .exit)) ⌝ }
+{
+    let got = libc::read(input, block);
+    io::count(got, block)
+}
+
+// Room for a line that is a call and a carriage return at its end.
+fn line_buffer() -> [u8; 4097]
+    ensures { λ r. ⌜ 4097 ≡ length r ⌝ }
+{
+    [0; 4097]
 }
 
 // Reads lines from one descriptor until it ends, and writes their answers to the other. What has been answered is written
@@ -156,7 +180,7 @@ fn finish(output: i32, line: &[u8], out: &mut [u8], session: Session)
 pub fn run(input: i32, output: i32) {
     let mut block_space = io::large_buffer();
     let block: &mut [u8] = &mut block_space;
-    let mut line_space = [0u8; 4097];
+    let mut line_space = line_buffer();
     let line: &mut [u8] = &mut line_space;
     let mut out_space = io::large_buffer();
     let out: &mut [u8] = &mut out_space;
@@ -174,9 +198,4 @@ pub fn run(input: i32, output: i32) {
         turns -= 1;
     }
     finish(output, line, out, session);
-}
-
-fn read_block(input: i32, block: &mut [u8]) -> usize {
-    let got = libc::read(input, block);
-    io::count(got, block)
 }

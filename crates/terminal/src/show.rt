@@ -9,6 +9,7 @@ use device::valid::valid;
 use device::valid::watchdog_limit;
 use rules::Channel;
 use rules::Conditions;
+use rules::STATE_NOT_VALID;
 use rules::Speed;
 use rules::State;
 use text::decimal::put_digits;
@@ -115,7 +116,7 @@ fn put_channels(state: State, out: &mut [u8], at: usize) -> usize {
     let conditions = conditions(state);
     let channels = state.channels;
     let mut next = put(
-        b"channel  target  ramp  output          count       rpm  queue  fault\n",
+        b"channels, with the speed at two pulses a revolution:\nchannel  target  ramp  output  percent  count       rpm  queue  fault\n",
         out,
         at,
     );
@@ -165,6 +166,9 @@ fn put_pin(high: bool, out: &mut [u8], at: usize) -> usize {
 fn put_fan_fail(state: State, out: &mut [u8], at: usize) -> usize {
     let answer = fan_fail::fan_fail(state);
     let name = put(b"FAN_FAIL  ", out, at);
+    if answer.refusal == STATE_NOT_VALID {
+        return put(b"not known: the query refuses the state\n", out, name);
+    }
     if !answer.asserted {
         return put(b"not asserted\n", out, name);
     }

@@ -110,6 +110,10 @@ module _ (line : List ℕ) where
   unfolding counted
   counted-all e = rw (ne-eqb _ 13 e)
 
+  pub counted-within : counted line ≤ length line
+  unfolding counted
+  counted-within = by-test (eqb (getD line (length line - 1) 0) 13) (λ t. rw t (omega arith)) (λ f. rw f (omega arith))
+
 -- ---- the first word from an index on
 module _ (line : List ℕ) (from begin : ℕ) (skipped : begin ≡ from + runOf true (drop from line)) where
   from-begin : drop (runOf true (drop from line)) (drop from line) ≡ drop begin line

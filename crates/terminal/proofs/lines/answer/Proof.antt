@@ -1,0 +1,49 @@
+-- `lines::answer` is safe. Assumes nothing.
+use mathlib.Core.Path.{sym}
+use native.Mathlib.Omega.{arith}
+use lib.ListN.{take, length-take}
+use lib.Seq.{length-take-le}
+use Rattle.text.proofs.Runs.{counted-within}
+use borrow.Author.Needs.{needs}
+use Rattle.terminal.proofs.lines.answer.Statement.{statement}
+use Rattle.terminal.proofs.lines.answer.Tie as tie
+
+slice-aggregate-end : tie.Need-slice-aggregate-end
+slice-aggregate-end c = sym (length-take-le _ _ (c .before .before .before .pre))
+
+end-requires : tie.Need-end-requires
+end-requires c κs = search needs
+
+less-requires : tie.Need-less-requires
+less-requires c κs = search needs
+
+less-requires-2 : tie.Need-less-requires-2
+less-requires-2 c κs = search needs
+
+slice-aggregate-answer-line : tie.Need-slice-aggregate-answer-line
+slice-aggregate-answer-line c =
+    let start = c .before .before .before .before .before .before .before in
+    let kept = take (start .args .gathered .kept) (start .args .line .now) in
+    sym (length-take-le _ _ (omega (arith, start .pre, c .before .before .before .end .ensures, counted-within kept, length-take (start .args .gathered .kept) (start .args .line .now))))
+
+answer-line-requires : tie.Need-answer-line-requires
+answer-line-requires c κs = search needs
+
+same-length : tie.Need-same-length
+same-length c = search needs
+
+returns : tie.Need-returns
+returns c = search needs
+
+pub answer-spec : {M : Type 1} → statement M
+answer-spec =
+    tie.close
+    (tie.spec
+    slice-aggregate-end
+    end-requires
+    less-requires
+    less-requires-2
+    slice-aggregate-answer-line
+    answer-line-requires
+    same-length
+    returns)

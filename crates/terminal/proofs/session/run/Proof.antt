@@ -1,0 +1,95 @@
+-- `session::run` is safe and ends. Assumes nothing.
+use Prim.Native.Nat.{_≤_}
+use mathlib.Core.Path.{_≡_}
+use native.Mathlib.Omega.{arith}
+use lib.ListN.{length}
+use borrow.Author.Needs.{needs}
+use Rattle.terminal.proofs.session.run.Statement.{statement}
+use Rattle.terminal.proofs.session.run.Tie as tie
+
+abbrev Inv-loop : tie.InvT-loop
+Inv-loop input output block₀ line₀ out₀ session₀ turns₀ block line out session turns = session .kept ≤ length line
+
+abbrev μ-loop : tie.MeasureT-loop
+μ-loop input output block₀ line₀ out₀ session₀ turns₀ block line out session turns = turns
+
+large-buffer-requires : tie.Need-large-buffer-requires Inv-loop μ-loop
+large-buffer-requires c κs = search needs
+
+slice-aggregate-block : tie.Need-slice-aggregate-block Inv-loop μ-loop
+slice-aggregate-block c = search needs
+
+slice-aggregate-line : tie.Need-slice-aggregate-line Inv-loop μ-loop
+slice-aggregate-line c = search needs
+
+line-buffer-requires : tie.Need-line-buffer-requires Inv-loop μ-loop
+line-buffer-requires c κs = search needs
+
+large-buffer-requires-2 : tie.Need-large-buffer-requires-2 Inv-loop μ-loop
+large-buffer-requires-2 c κs = search needs
+
+slice-aggregate-out : tie.Need-slice-aggregate-out Inv-loop μ-loop
+slice-aggregate-out c = search needs
+
+begin-requires : tie.Need-begin-requires Inv-loop μ-loop
+begin-requires c κs = search needs
+
+loop-holds : tie.Need-loop-holds Inv-loop μ-loop
+loop-holds c = omega (arith, c .begin .ensures)
+
+read-block-requires : tie.Need-read-block-requires Inv-loop μ-loop
+read-block-requires c κs = search needs
+
+slice-reshare-prefix-take-block : tie.Need-slice-reshare-prefix-take-block Inv-loop μ-loop
+slice-reshare-prefix-take-block c = search needs
+
+slice-aggregate-take-block : tie.Need-slice-aggregate-take-block Inv-loop μ-loop
+slice-aggregate-take-block c = search needs
+
+take-block-requires : tie.Need-take-block-requires Inv-loop μ-loop
+take-block-requires c κs = c .before .before .before .before .before .before .before .before .before .loop .inv
+
+flush-requires : tie.Need-flush-requires Inv-loop μ-loop
+flush-requires c κs = search needs
+
+sub-turns : tie.Need-sub-turns Inv-loop μ-loop
+sub-turns c = search needs
+
+loop-less : tie.Need-loop-less Inv-loop μ-loop
+loop-less c = search needs
+
+loop-again : tie.Need-loop-again Inv-loop μ-loop
+loop-again c =
+    let taken = c .before .before .before .before .before .before .take-block in
+    omega (arith, taken .ensures, taken .kept .1 .1 .0)
+
+finish-requires : tie.Need-finish-requires Inv-loop μ-loop
+finish-requires c κs = c .before .before .loop .inv
+
+returns : tie.Need-returns Inv-loop μ-loop
+returns c = search needs
+
+pub run-spec : {M : Type 1} → statement M
+run-spec =
+    tie.close
+    (tie.spec
+    Inv-loop
+    μ-loop
+    large-buffer-requires
+    slice-aggregate-block
+    line-buffer-requires
+    slice-aggregate-line
+    large-buffer-requires-2
+    slice-aggregate-out
+    begin-requires
+    loop-holds
+    read-block-requires
+    slice-reshare-prefix-take-block
+    slice-aggregate-take-block
+    take-block-requires
+    flush-requires
+    sub-turns
+    loop-less
+    loop-again
+    finish-requires
+    returns)
