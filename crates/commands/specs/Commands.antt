@@ -14,7 +14,6 @@ use Rattle.commands.specs.declared.Verb.{Verb}
 use Rattle.commands.specs.declared.Verb.the-variants.{Write, Read, Ticks, Tach, Pin, Cabin, FanFail, Speed, Start, Dump, Load, Show, Help}
 use Rattle.commands.specs.declared.Named.{Named}
 use Rattle.commands.specs.declared.Named.the-variants.{Known, Unknown}
-use Rattle.commands.specs.declared.Reason.{Reason}
 use Rattle.commands.specs.declared.Reason.the-variants.{UnknownCommand, WordCount, NotNumber, TooLarge}
 use Rattle.commands.specs.declared.Numbers.{Numbers}
 use Rattle.commands.specs.declared.Numbers.the-variants as numbers

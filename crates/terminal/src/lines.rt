@@ -1,6 +1,9 @@
 // A line, gathered from the input, and what it answers.
+ghost use mathlib.Core.Path.{_≡_};
 ghost use Prim.Native.Nat.{_≤_};
 ghost use lib.ListN.{length};
+ghost use Rattle.text.specs.Words.{wordsOf};
+ghost use Rattle.terminal.specs.Lines.{skippedOf, Unchanged};
 use crate::answer::end_line;
 use crate::answer::less;
 use crate::answer::put_decimal;
@@ -82,7 +85,9 @@ pub fn gather(bytes: &[u8], line: &mut [u8], gathered: Gathered) -> Gathered
 }
 
 // Whether a line answers nothing: it has no word, or its first begins with `#`.
-fn is_skipped(line: &[u8]) -> bool {
+fn is_skipped(line: &[u8]) -> bool
+    ensures { λ r. ⌜ r ≡ skippedOf (wordsOf (now (line .entry))) ⌝ }
+{
     let first = next_word(line, 0);
     match first {
         Word::Nothing => true,
@@ -129,7 +134,9 @@ fn put_error(reason: Reason, number: u32, out: &mut [u8], at: usize) -> usize {
     end_line(out, end)
 }
 
-fn answer_call(line: &[u8], number: u32, state: State, out: &mut [u8], at: usize) -> Reply {
+fn answer_call(line: &[u8], number: u32, state: State, out: &mut [u8], at: usize) -> Reply
+    ensures { λ r. ⌜ Unchanged (now (line .entry)) state (r .state) ⌝ }
+{
     let mut values = [0u32; 68];
     let parsed = parse_line(line, &mut values);
     match parsed {

@@ -1,0 +1,65 @@
+-- `lines::answer_call` meets its contract. Assumes nothing.
+use mathlib.Core.Path.{_≡_, sym, _∙_}
+use Rattle.commands.specs.declared.Verb.{Verb}
+use Rattle.commands.specs.declared.Reason.{Reason}
+use Rattle.commands.specs.declared.Parsed.the-variants.{Call, Wrong}
+use borrow.Author.Needs.{needs}
+use Rattle.terminal.proofs.lines.answer_call.Statement.{statement}
+use Rattle.terminal.proofs.lines.answer_call.Tie as tie
+
+slice-aggregate-parse-line : tie.Need-slice-aggregate-parse-line
+slice-aggregate-parse-line c = search needs
+
+parse-line-requires : tie.Need-parse-line-requires
+parse-line-requires c κs = search needs
+
+enum-known-parsed : tie.Need-enum-known-parsed
+enum-known-parsed c = search needs
+
+put-error-requires : tie.Need-put-error-requires
+put-error-requires c κs = search needs
+
+replied-requires : tie.Need-replied-requires
+replied-requires c κs = search needs
+
+enum-known-parsed-2 : tie.Need-enum-known-parsed-2
+enum-known-parsed-2 c = search needs
+
+slice-aggregate-call : tie.Need-slice-aggregate-call
+slice-aggregate-call c = search needs
+
+call-requires : tie.Need-call-requires
+call-requires c κs = search needs
+
+same-length : tie.Need-same-length
+same-length c = search needs
+
+returns : tie.Need-returns
+returns c = search needs
+
+same-length-2 : tie.Need-same-length-2
+same-length-2 c = search needs
+
+-- a line that is a call is not wrong
+never : {A : Type 0} {verb : Verb} {reason : Reason} {a b : A} → Call verb ≡ Wrong reason → a ≡ b
+never e = cc
+
+returns-2 : tie.Need-returns-2
+returns-2 c = λ reason e. never (sym (c .before .before .before .before .before .before .parsed2 .given .1) ∙ c .before .before .before .before .before .before .before .before .before .parse-line .ensures .0 ∙ e)
+
+pub answer-call-spec : {M : Type 1} → statement M
+answer-call-spec =
+    tie.close
+    (tie.spec
+    slice-aggregate-parse-line
+    parse-line-requires
+    enum-known-parsed
+    put-error-requires
+    replied-requires
+    enum-known-parsed-2
+    slice-aggregate-call
+    call-requires
+    same-length
+    returns
+    same-length-2
+    returns-2)
