@@ -261,8 +261,7 @@ fn take_numbers(line: &[u8], from: usize, verb: Verb, values: &mut [u32]) -> Num
     Numbers::Taken
 }
 
-// The call that a line is, and its numbers in the values.
-pub fn parse_line(line: &[u8], values: &mut [u32]) -> Parsed
+fn parse_into(line: &[u8], values: &mut [u32]) -> Parsed
     requires { ⌜ length (now values) ≡ 68 ⌝ }
     ensures { λ r. ⌜ r ≡ parsedOf (wordsOf (now (line .entry))) ⌝ }
     ensures { λ r. ⌜ now (values .exit) ≡ sets (now (values .entry)) 0 (valuesOf (wordsOf (now (line .entry)))) ⌝ }
@@ -283,4 +282,12 @@ pub fn parse_line(line: &[u8], values: &mut [u32]) -> Parsed
         Numbers::Taken => Parsed::Call(verb),
         Numbers::Wrong(reason) => Parsed::Wrong(reason),
     }
+}
+
+// The call that a line is, and its numbers in the values.
+pub fn parse_line(line: &[u8], values: &mut [u32; 68]) -> Parsed
+    ensures { λ r. ⌜ r ≡ parsedOf (wordsOf (now (line .entry))) ⌝ }
+    ensures { λ r. ⌜ now (values .exit) ≡ sets (now (values .entry)) 0 (valuesOf (wordsOf (now (line .entry)))) ⌝ }
+{
+    parse_into(line, values)
 }

@@ -1,14 +1,17 @@
 -- `lines::answer_call` meets its contract. Assumes nothing.
-use mathlib.Core.Path.{_≡_, sym, _∙_}
+use Prim.Native.Nat.{ℕ}
+use mathlib.Core.Path.{_≡_, refl, sym, ap, _∙_}
+use mathlib.Core.List.{List}
+use lib.ListN.{length, replicate}
+use lib.Seq.{sets, length-sets}
+use Rattle.text.specs.Words.{wordsOf}
+use Rattle.commands.specs.Commands.{valuesOf}
 use Rattle.commands.specs.declared.Verb.{Verb}
 use Rattle.commands.specs.declared.Reason.{Reason}
 use Rattle.commands.specs.declared.Parsed.the-variants.{Call, Wrong}
 use borrow.Author.Needs.{needs}
 use Rattle.terminal.proofs.lines.answer_call.Statement.{statement}
 use Rattle.terminal.proofs.lines.answer_call.Tie as tie
-
-slice-aggregate-parse-line : tie.Need-slice-aggregate-parse-line
-slice-aggregate-parse-line c = search needs
 
 parse-line-requires : tie.Need-parse-line-requires
 parse-line-requires c κs = search needs
@@ -25,8 +28,14 @@ replied-requires c κs = search needs
 enum-known-parsed-2 : tie.Need-enum-known-parsed-2
 enum-known-parsed-2 c = search needs
 
+-- the values stay as many as they were
+as-many : (before after new : List ℕ) → length before ≡ 68 → after ≡ sets before 0 new → 68 ≡ length after
+as-many before after new many e = sym (ap length e ∙ length-sets before 0 new ∙ many)
+
 slice-aggregate-call : tie.Need-slice-aggregate-call
-slice-aggregate-call c = search needs
+slice-aggregate-call c =
+    let line = c .before .before .before .before .before .before .before .before .args .line .now in
+    as-many (replicate 68 0) _ (valuesOf (wordsOf line)) refl (c .before .before .before .before .parse-line .ensures .1)
 
 call-requires : tie.Need-call-requires
 call-requires c κs = search needs
@@ -45,13 +54,12 @@ never : {A : Type 0} {verb : Verb} {reason : Reason} {a b : A} → Call verb ≡
 never e = cc
 
 returns-2 : tie.Need-returns-2
-returns-2 c = λ reason e. never (sym (c .before .before .before .before .before .before .parsed2 .given .1) ∙ c .before .before .before .before .before .before .before .before .before .parse-line .ensures .0 ∙ e)
+returns-2 c = λ reason e. never (sym (c .before .before .before .before .before .before .parsed2 .given .1) ∙ c .before .before .before .before .before .before .before .before .parse-line .ensures .0 ∙ e)
 
 pub answer-call-spec : {M : Type 1} → statement M
 answer-call-spec =
     tie.close
     (tie.spec
-    slice-aggregate-parse-line
     parse-line-requires
     enum-known-parsed
     put-error-requires

@@ -1,4 +1,4 @@
--- `commands::parse_line` meets its contract. Assumes nothing.
+-- `commands::parse_into` meets its contract. Assumes nothing.
 use Prim.Native.Nat.{_≤_, _<_}
 use mathlib.Core.Path.{sym, ap, _∙_}
 use native.Mathlib.Omega.{arith}
@@ -7,8 +7,8 @@ use Rattle.text.specs.Words.{wordsOf}
 use Rattle.commands.proofs.Taking.{found-none, found-first, found-within}
 use Rattle.commands.proofs.Parsing.{no-word, unknown, miscounted, counted}
 use borrow.Author.Needs.{needs}
-use Rattle.commands.proofs.parse_line.Statement.{statement}
-use Rattle.commands.proofs.parse_line.Tie as tie
+use Rattle.commands.proofs.parse_into.Statement.{statement}
+use Rattle.commands.proofs.parse_into.Tie as tie
 
 next-word-requires : tie.Need-next-word-requires
 next-word-requires c κs = search needs
@@ -94,8 +94,8 @@ returns-5 c =
     counted (wordsOf (c .before .before .before .before .before .before .before .before .before .before .before .before .before .before .before .before .before .before .before .before .before .args .line .now)) (c .before .before .before .before .before .before .before .before .before .before .before .before .before .before .before .before .before .before .before .before .before .args .values .now) first _ (sym (c .before .before .before .before .before .before .before .before .before .before .before .before .before .verb-of .ensures) ∙ c .before .before .before .before .before .before .before .before .before .before .before .named .given .1)
     (omega (arith, ap length first, c .before .before .before .before .before .before .before .if1 .left)) (rw (sym (taken .ensures .0) ∙ c .before .numbers .given .1)) (taken .ensures .1)
 
-pub parse-line-spec : {M : Type 1} → statement M
-parse-line-spec =
+pub parse-into-spec : {M : Type 1} → statement M
+parse-into-spec =
     tie.close
     (tie.spec
     next-word-requires
