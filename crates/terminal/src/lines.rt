@@ -17,6 +17,7 @@ use commands::Verb;
 use commands::parse_line;
 use rules::State;
 use text::line::Word;
+use text::line::is_blank;
 use text::line::next_word;
 use text::put::put;
 
@@ -40,7 +41,7 @@ fn is_before(kept: usize, byte: u8) -> bool {
     if 0 < kept {
         return false;
     }
-    (byte == b' ') | (byte == b'\t')
+    is_blank(byte)
 }
 
 fn one_more(total: usize) -> usize {

@@ -10,7 +10,8 @@ pub enum Word {
     Nothing,
 }
 
-fn is_blank(byte: u8) -> bool
+// Whether a byte parts words.
+pub fn is_blank(byte: u8) -> bool
     ensures { λ r. ⌜ r ≡ isBlank byte ⌝ }
 {
     (byte == b' ') | (byte == b'\t')
