@@ -1,21 +1,64 @@
--- Which lines are skipped, and which leave the state in hand as it was.
+-- What a line answers, and the state in hand after it: the table of the console's lines.
 use Prim.Native.Nat.{ℕ}
 use mathlib.Core.Path.{_≡_}
 use mathlib.Core.Bool.{Bool, true}
 use mathlib.Core.List.{List, [], _∷_}
-use lib.ListN.{getD}
+use lib.ListN.{getD, replicate}
+use lib.Seq.{sets}
 use lib.Dec.{eqb}
 use Rattle.rules.specs.declared.State.{State}
+use Rattle.rules.specs.declared.Answer.{Answer}
+use Rattle.rules.specs.Start.{startOf}
+use Rattle.rules.specs.Write.{writeOf}
+use Rattle.rules.specs.Read.{readOf}
+use Rattle.rules.specs.Tick.{ticksPassed}
+use Rattle.rules.specs.Tachometer.{resultOf}
+use Rattle.rules.specs.Pin.{pinOf}
+use Rattle.rules.specs.Reading.{readingOf}
+use Rattle.rules.specs.FanFail.{fanFailOf}
+use Rattle.rules.specs.Speed.{speedOf}
 use Rattle.text.specs.Words.{wordsOf}
-use Rattle.commands.specs.declared.Reason.{Reason}
-use Rattle.commands.specs.declared.Parsed.the-variants.{Wrong}
-use Rattle.commands.specs.Commands.{parsedOf}
+use Rattle.commands.specs.declared.Verb.{Verb}
+use Rattle.commands.specs.declared.Verb.the-variants.{Write, Read, Ticks, Tach, Pin, Cabin, FanFail, Speed, Start, Dump, Load, Show, Help}
+use Rattle.commands.specs.declared.Parsed.{Parsed}
+use Rattle.commands.specs.declared.Parsed.the-variants.{Call, Wrong}
+use Rattle.commands.specs.Commands.{parsedOf, valuesOf}
+use Rattle.answers.specs.declared.calls.Reply.{Reply}
+use Rattle.answers.specs.Numbers.{answerLine}
+use Rattle.answers.specs.Image.{byteOf, number, stateNumbers, stateFrom}
+use Rattle.answers.specs.Replies.{Replies, refusalLine, readLine, fanFailLine, speedLine, cabinLine, okLine}
 
 -- "A line that is empty, blank, or whose first word begins with `#` is skipped"
 abbrev pub skippedOf : List (List ℕ) → Bool
 skippedOf [] = true
 skippedOf (word ∷ words) = eqb (getD word 0 0) 35
 
--- "a line that is no call leaves the state in hand as it was"
-abbrev pub Unchanged : List ℕ → State → State → Type 0
-Unchanged line before after = (reason : Reason) → parsedOf (wordsOf line) ≡ Wrong reason → after ≡ before
+-- a command's answer, and the state in hand after it: the buffer before and after, the index that the answer begins at, and the
+-- reply. `show` and `help` leave the state as it was; their lines are for a person
+module _ (s : State) (at : ℕ) (before after : List ℕ) (reply : Reply) where
+  abbrev pub Refusal : Answer → Type 0
+  Refusal a = Replies (refusalLine a) (a .state) at before after reply
+
+  abbrev pub Answers : Verb → List ℕ → Type 0
+  Answers Start v = Refusal (startOf (number v 0) (number v 1) (number v 2) (byteOf (number v 3)))
+  Answers Write v = Refusal (writeOf s (number v 0) (byteOf (number v 1)))
+  Answers Read v = Replies (readLine (readOf s (number v 0))) (readOf s (number v 0) .state) at before after reply
+  Answers Ticks v = Refusal (ticksPassed s (number v 0))
+  Answers Tach v = Refusal (resultOf s (number v 0) (number v 1))
+  Answers Pin v = Refusal (pinOf s (eqb (number v 0) 1))
+  Answers Cabin v = Replies (cabinLine (readingOf s)) (readingOf s .state) at before after reply
+  Answers FanFail v = Replies (fanFailLine (fanFailOf s)) (fanFailOf s .state) at before after reply
+  Answers Speed v = Replies (speedLine (speedOf (number v 0) (number v 1) (number v 2))) s at before after reply
+  Answers Dump v = Replies (answerLine (stateNumbers s)) s at before after reply
+  Answers Load v = Replies okLine (stateFrom v) at before after reply
+  Answers Show v = reply .state ≡ s
+  Answers Help v = reply .state ≡ s
+
+  -- "a line that is no call leaves the state in hand as it was"
+  abbrev pub AnswersAs : Parsed → List ℕ → Type 0
+  AnswersAs (Call verb) v = Answers verb v
+  AnswersAs (Wrong reason) v = reply .state ≡ s
+
+  -- a line; its numbers are the first of 68, and the others are 0
+  abbrev pub AnswersLine : List ℕ → Type 0
+  AnswersLine line = AnswersAs (parsedOf (wordsOf line)) (sets (replicate 68 0) 0 (valuesOf (wordsOf line)))

@@ -1,4 +1,5 @@
 // Which call a command is.
+ghost use Rattle.terminal.specs.Lines.{Answers};
 use crate::help::put_help;
 use crate::show::put_show;
 use answers::calls::Reply;
@@ -17,18 +18,10 @@ use answers::calls::write_call;
 use commands::Verb;
 use rules::State;
 
-// Commands that tell of the state and leave it as it is.
-fn tell(verb: Verb, state: State, out: &mut [u8], at: usize) -> Reply {
-    match verb {
-        Verb::Cabin => cabin_call(state, out, at),
-        Verb::FanFail => fan_fail_call(state, out, at),
-        Verb::Dump => dump_call(state, out, at),
-        Verb::Show => replied(state, put_show(state, out, at)),
-        _ => replied(state, put_help(out, at)),
-    }
-}
-
-pub fn call(verb: Verb, state: State, values: &[u32], out: &mut [u8], at: usize) -> Reply {
+// Makes a command's call, and puts its answer.
+pub fn call(verb: Verb, state: State, values: &[u32], out: &mut [u8], at: usize) -> Reply
+    ensures { λ r. ⌜ Answers state at (now (out .entry)) (now (out .exit)) r verb (now (values .entry)) ⌝ }
+{
     match verb {
         Verb::Start => start_call(values, out, at),
         Verb::Write => write_call(state, values, out, at),
@@ -36,8 +29,12 @@ pub fn call(verb: Verb, state: State, values: &[u32], out: &mut [u8], at: usize)
         Verb::Ticks => ticks_call(state, values, out, at),
         Verb::Tach => tach_call(state, values, out, at),
         Verb::Pin => pin_call(state, values, out, at),
+        Verb::Cabin => cabin_call(state, out, at),
+        Verb::FanFail => fan_fail_call(state, out, at),
         Verb::Speed => speed_call(state, values, out, at),
+        Verb::Dump => dump_call(state, out, at),
         Verb::Load => load_call(values, out, at),
-        _ => tell(verb, state, out, at),
+        Verb::Show => replied(state, put_show(state, out, at)),
+        Verb::Help => replied(state, put_help(out, at)),
     }
 }

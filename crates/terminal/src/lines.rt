@@ -3,7 +3,7 @@ ghost use mathlib.Core.Path.{_≡_};
 ghost use Prim.Native.Nat.{_≤_};
 ghost use lib.ListN.{length};
 ghost use Rattle.text.specs.Words.{wordsOf};
-ghost use Rattle.terminal.specs.Lines.{skippedOf, Unchanged};
+ghost use Rattle.terminal.specs.Lines.{skippedOf, AnswersLine};
 use crate::answer::end_line;
 use crate::answer::less;
 use crate::answer::put_decimal;
@@ -136,7 +136,7 @@ fn put_error(reason: Reason, number: u32, out: &mut [u8], at: usize) -> usize {
 }
 
 fn answer_call(line: &[u8], number: u32, state: State, out: &mut [u8], at: usize) -> Reply
-    ensures { λ r. ⌜ Unchanged (now (line .entry)) state (r .state) ⌝ }
+    ensures { λ r. ⌜ AnswersLine state at (now (out .entry)) (now (out .exit)) r (now (line .entry)) ⌝ }
 {
     let mut values = [0u32; 68];
     let parsed = parse_line(line, &mut values);

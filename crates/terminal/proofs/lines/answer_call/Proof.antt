@@ -6,9 +6,6 @@ use lib.ListN.{length, replicate}
 use lib.Seq.{sets, length-sets}
 use Rattle.text.specs.Words.{wordsOf}
 use Rattle.commands.specs.Commands.{valuesOf}
-use Rattle.commands.specs.declared.Verb.{Verb}
-use Rattle.commands.specs.declared.Reason.{Reason}
-use Rattle.commands.specs.declared.Parsed.the-variants.{Call, Wrong}
 use borrow.Author.Needs.{needs}
 use Rattle.terminal.proofs.lines.answer_call.Statement.{statement}
 use Rattle.terminal.proofs.lines.answer_call.Tie as tie
@@ -44,17 +41,13 @@ same-length : tie.Need-same-length
 same-length c = search needs
 
 returns : tie.Need-returns
-returns c = search needs
+returns c = rw (sym (c .before .before .before .before .before .before .before .before .parse-line .ensures .0) ∙ c .before .before .before .before .before .before .parsed .given .1) (c .replied .ensures .0)
 
 same-length-2 : tie.Need-same-length-2
 same-length-2 c = search needs
 
--- a line that is a call is not wrong
-never : {A : Type 0} {verb : Verb} {reason : Reason} {a b : A} → Call verb ≡ Wrong reason → a ≡ b
-never e = cc
-
 returns-2 : tie.Need-returns-2
-returns-2 c = λ reason e. never (sym (c .before .before .before .before .before .before .parsed2 .given .1) ∙ c .before .before .before .before .before .before .before .before .parse-line .ensures .0 ∙ e)
+returns-2 c = rw (sym (c .before .before .before .before .before .before .before .before .parse-line .ensures .0) ∙ c .before .before .before .before .before .before .parsed2 .given .1) (rw (c .before .before .before .before .before .before .before .before .parse-line .ensures .1) at (c .before .before .call .ensures))
 
 pub answer-call-spec : {M : Type 1} → statement M
 answer-call-spec =
