@@ -1,7 +1,7 @@
 -- What a line answers, and the state in hand after it: the table of the console's lines.
-use Prim.Native.Nat.{ℕ}
+use Prim.Native.Nat.{ℕ, _≤_, _<_}
 use mathlib.Core.Path.{_≡_}
-use mathlib.Core.Bool.{Bool, true}
+use mathlib.Core.Bool.{Bool, true, false}
 use mathlib.Core.List.{List, [], _∷_}
 use lib.ListN.{getD, replicate}
 use lib.Seq.{sets}
@@ -62,3 +62,9 @@ module _ (s : State) (at : ℕ) (before after : List ℕ) (reply : Reply) where
   -- a line; its numbers are the first of 68, and the others are 0
   abbrev pub AnswersLine : List ℕ → Type 0
   AnswersLine line = AnswersAs (parsedOf (wordsOf line)) (sets (replicate 68 0) 0 (valuesOf (wordsOf line)))
+
+  -- "is skipped and answers nothing, however long it is"; "a line longer than 4,096 bytes .. changes nothing"
+  pub record AnswersWhole (long : ℕ) (line : List ℕ) : Type 0 where
+    pub skipped : skippedOf (wordsOf line) ≡ true → (reply .state ≡ s) × (reply .at ≡ at) × (after ≡ before)
+    pub too-long : skippedOf (wordsOf line) ≡ false → 4096 < long → reply .state ≡ s
+    pub answered : skippedOf (wordsOf line) ≡ false → long ≤ 4096 → AnswersLine line

@@ -3,7 +3,7 @@ ghost use mathlib.Core.Path.{_≡_};
 ghost use Prim.Native.Nat.{_≤_};
 ghost use lib.ListN.{length};
 ghost use Rattle.text.specs.Words.{wordsOf};
-ghost use Rattle.terminal.specs.Lines.{skippedOf, AnswersLine};
+ghost use Rattle.terminal.specs.Lines.{skippedOf, AnswersLine, AnswersWhole};
 use crate::answer::end_line;
 use crate::answer::less;
 use crate::answer::put_decimal;
@@ -154,7 +154,9 @@ fn answer_line(
     state: State,
     out: &mut [u8],
     at: usize,
-) -> Reply {
+) -> Reply
+    ensures { λ r. ⌜ AnswersWhole state at (now (out .entry)) (now (out .exit)) r long (now (line .entry)) ⌝ }
+{
     if is_skipped(line) {
         return replied(state, at);
     }

@@ -1,5 +1,5 @@
 -- An f64 that is a number of 512ths exactly: a number divided by 512 is exact below 2 ^ 53, so comparing with it counts them.
-use Prim.Native.Nat.{ℕ, zero, suc, _+_, _-_, _*_, _/_, _%_, _^_, _≤_, _<_}
+use Prim.Native.Nat.{ℕ, zero, suc, _+_, _-_, _*_, _^_, _≤_, _<_}
 use mathlib.Core.Path.{_≡_, sym, _∙_}
 use mathlib.Core.Bool.{true, false, cond, _&&_, _||_}
 use native.Mathlib.Nat.{two-pow-succ, mul-comm, mul-assoc, mul-right-comm, mul-pos, mul-lt-mul-of-pos-right, mul-le-mul-right}
@@ -92,7 +92,3 @@ counted (suc bits) m n x v low high room =
 pub parts-exact : (x : Float) (n : ℕ) → HasValue x false n 512 → n < 2 ^ 32 → partsOf x ≡ n
 unfolding partsOf
 parts-exact x n v h = counted 32 0 n x v (omega arith) (omega arith) (omega arith)
-
--- the whole part and the nine decimals are n / 512 exactly
-pub nine-exact : (n : ℕ) → (n / 512 * 10 ^ 9 + n % 512 * 1953125) * 512 ≡ n * 10 ^ 9
-nine-exact n = omega arith
