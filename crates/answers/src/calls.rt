@@ -1,19 +1,12 @@
 // The calls, made with the numbers of a line on the state in hand, and their answers.
 ghost use mathlib.Core.Path.{_≡_};
-ghost use lib.Dec.{eqb};
-ghost use Rattle.rules.specs.Start.{startOf};
-ghost use Rattle.rules.specs.Write.{writeOf};
-ghost use Rattle.rules.specs.Read.{readOf};
-ghost use Rattle.rules.specs.Tick.{ticksPassed};
-ghost use Rattle.rules.specs.Tachometer.{resultOf};
-ghost use Rattle.rules.specs.Pin.{pinOf};
 ghost use Rattle.rules.specs.Reading.{readingOf};
 ghost use Rattle.rules.specs.FanFail.{fanFailOf};
-ghost use Rattle.rules.specs.Speed.{speedOf};
 ghost use Rattle.text.specs.Put.{Put};
 ghost use Rattle.answers.specs.Numbers.{answerLine};
-ghost use Rattle.answers.specs.Image.{stateNumbers, byteOf, number, stateFrom};
-ghost use Rattle.answers.specs.Replies.{Replies, refusalLine, readLine, fanFailLine, speedLine, spacedParts, cabinLine, okLine};
+ghost use Rattle.answers.specs.Image.{stateNumbers, stateFrom};
+ghost use Rattle.answers.specs.Replies.{Replies, Refuses, startBy, writeBy, readBy, ticksBy, tachBy, pinBy, speedBy, readLine, fanFailLine, speedLine, spacedParts, cabinLine, okLine};
+use crate::image::byte;
 use crate::image::flag;
 use crate::image::put_state;
 use crate::image::state_of;
@@ -44,21 +37,14 @@ pub fn replied(state: State, at: usize) -> Reply
 
 // The answer of a call that gives a refusal and a state.
 fn refusal_line(answer: Answer, out: &mut [u8], at: usize) -> Reply
-    ensures { λ r. ⌜ Replies (refusalLine answer) (answer .state) at (now (out .entry)) (now (out .exit)) r ⌝ }
+    ensures { λ r. ⌜ Refuses answer at (now (out .entry)) (now (out .exit)) r ⌝ }
 {
     let end = put_line(&[answer.refusal as u32], out, at);
     replied(answer.state, end)
 }
 
-// A number that was tested to be a byte, as one.
-fn byte(n: u32) -> u8
-    ensures { λ r. ⌜ r ≡ byteOf n ⌝ }
-{
-    (n % 256) as u8
-}
-
 pub fn start_call(values: &[u32], out: &mut [u8], at: usize) -> Reply
-    ensures { λ r. ⌜ Replies (refusalLine (startOf (number (now (values .entry)) 0) (number (now (values .entry)) 1) (number (now (values .entry)) 2) (byteOf (number (now (values .entry)) 3)))) ((startOf (number (now (values .entry)) 0) (number (now (values .entry)) 1) (number (now (values .entry)) 2) (byteOf (number (now (values .entry)) 3))) .state) at (now (out .entry)) (now (out .exit)) r ⌝ }
+    ensures { λ r. ⌜ Refuses (startBy (now (values .entry))) at (now (out .entry)) (now (out .exit)) r ⌝ }
 {
     refusal_line(
         start::start(
@@ -73,7 +59,7 @@ pub fn start_call(values: &[u32], out: &mut [u8], at: usize) -> Reply
 }
 
 pub fn write_call(state: State, values: &[u32], out: &mut [u8], at: usize) -> Reply
-    ensures { λ r. ⌜ Replies (refusalLine (writeOf state (number (now (values .entry)) 0) (byteOf (number (now (values .entry)) 1)))) ((writeOf state (number (now (values .entry)) 0) (byteOf (number (now (values .entry)) 1))) .state) at (now (out .entry)) (now (out .exit)) r ⌝ }
+    ensures { λ r. ⌜ Refuses (writeBy state (now (values .entry))) at (now (out .entry)) (now (out .exit)) r ⌝ }
 {
     refusal_line(
         write::write(state, value(values, 0), byte(value(values, 1))),
@@ -83,7 +69,7 @@ pub fn write_call(state: State, values: &[u32], out: &mut [u8], at: usize) -> Re
 }
 
 pub fn read_call(state: State, values: &[u32], out: &mut [u8], at: usize) -> Reply
-    ensures { λ r. ⌜ Replies (readLine (readOf state (number (now (values .entry)) 0))) ((readOf state (number (now (values .entry)) 0)) .state) at (now (out .entry)) (now (out .exit)) r ⌝ }
+    ensures { λ r. ⌜ Replies (readLine (readBy state (now (values .entry)))) (readBy state (now (values .entry)) .state) at (now (out .entry)) (now (out .exit)) r ⌝ }
 {
     let answer = read::read(state, value(values, 0));
     let end = put_line(&[answer.refusal as u32, answer.byte as u32], out, at);
@@ -91,13 +77,13 @@ pub fn read_call(state: State, values: &[u32], out: &mut [u8], at: usize) -> Rep
 }
 
 pub fn ticks_call(state: State, values: &[u32], out: &mut [u8], at: usize) -> Reply
-    ensures { λ r. ⌜ Replies (refusalLine (ticksPassed state (number (now (values .entry)) 0))) ((ticksPassed state (number (now (values .entry)) 0)) .state) at (now (out .entry)) (now (out .exit)) r ⌝ }
+    ensures { λ r. ⌜ Refuses (ticksBy state (now (values .entry))) at (now (out .entry)) (now (out .exit)) r ⌝ }
 {
     refusal_line(ticks::pass_ticks(state, value(values, 0)), out, at)
 }
 
 pub fn tach_call(state: State, values: &[u32], out: &mut [u8], at: usize) -> Reply
-    ensures { λ r. ⌜ Replies (refusalLine (resultOf state (number (now (values .entry)) 0) (number (now (values .entry)) 1))) ((resultOf state (number (now (values .entry)) 0) (number (now (values .entry)) 1)) .state) at (now (out .entry)) (now (out .exit)) r ⌝ }
+    ensures { λ r. ⌜ Refuses (tachBy state (now (values .entry))) at (now (out .entry)) (now (out .exit)) r ⌝ }
 {
     refusal_line(
         tachometer::take_result(state, value(values, 0), value(values, 1)),
@@ -107,7 +93,7 @@ pub fn tach_call(state: State, values: &[u32], out: &mut [u8], at: usize) -> Rep
 }
 
 pub fn pin_call(state: State, values: &[u32], out: &mut [u8], at: usize) -> Reply
-    ensures { λ r. ⌜ Replies (refusalLine (pinOf state (eqb (number (now (values .entry)) 0) 1))) ((pinOf state (eqb (number (now (values .entry)) 0) 1)) .state) at (now (out .entry)) (now (out .exit)) r ⌝ }
+    ensures { λ r. ⌜ Refuses (pinBy state (now (values .entry))) at (now (out .entry)) (now (out .exit)) r ⌝ }
 {
     refusal_line(pin::set_pin(state, value(values, 0) == 1), out, at)
 }
@@ -156,7 +142,7 @@ pub fn fan_fail_call(state: State, out: &mut [u8], at: usize) -> Reply
 }
 
 pub fn speed_call(state: State, values: &[u32], out: &mut [u8], at: usize) -> Reply
-    ensures { λ r. ⌜ Replies (speedLine (speedOf (number (now (values .entry)) 0) (number (now (values .entry)) 1) (number (now (values .entry)) 2))) state at (now (out .entry)) (now (out .exit)) r ⌝ }
+    ensures { λ r. ⌜ Replies (speedLine (speedBy (now (values .entry)))) state at (now (out .entry)) (now (out .exit)) r ⌝ }
 {
     let speed = speed::speed(value(values, 0), value(values, 1), value(values, 2));
     match speed {

@@ -26,8 +26,8 @@ pub fn value(values: &[u32], i: usize) -> u32
     0
 }
 
-// The low bits of a number, as much as a u8 or a u16 holds. What `load` was given is never larger.
-fn byte(n: u32) -> u8
+// The low bits of a number, as much as a u8 or a u16 holds. What a line gives for one is never larger.
+pub fn byte(n: u32) -> u8
     ensures { λ r. ⌜ r ≡ byteOf n ⌝ }
 {
     (n % 256) as u8

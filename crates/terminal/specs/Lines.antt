@@ -8,15 +8,8 @@ use lib.Seq.{sets}
 use lib.Dec.{eqb}
 use Rattle.rules.specs.declared.State.{State}
 use Rattle.rules.specs.declared.Answer.{Answer}
-use Rattle.rules.specs.Start.{startOf}
-use Rattle.rules.specs.Write.{writeOf}
-use Rattle.rules.specs.Read.{readOf}
-use Rattle.rules.specs.Tick.{ticksPassed}
-use Rattle.rules.specs.Tachometer.{resultOf}
-use Rattle.rules.specs.Pin.{pinOf}
 use Rattle.rules.specs.Reading.{readingOf}
 use Rattle.rules.specs.FanFail.{fanFailOf}
-use Rattle.rules.specs.Speed.{speedOf}
 use Rattle.text.specs.Words.{wordsOf}
 use Rattle.commands.specs.declared.Verb.{Verb}
 use Rattle.commands.specs.declared.Verb.the-variants.{Write, Read, Ticks, Tach, Pin, Cabin, FanFail, Speed, Start, Dump, Load, Show, Help}
@@ -25,8 +18,8 @@ use Rattle.commands.specs.declared.Parsed.the-variants.{Call, Wrong}
 use Rattle.commands.specs.Commands.{parsedOf, valuesOf}
 use Rattle.answers.specs.declared.calls.Reply.{Reply}
 use Rattle.answers.specs.Numbers.{answerLine}
-use Rattle.answers.specs.Image.{byteOf, number, stateNumbers, stateFrom}
-use Rattle.answers.specs.Replies.{Replies, refusalLine, readLine, fanFailLine, speedLine, cabinLine, okLine}
+use Rattle.answers.specs.Image.{stateNumbers, stateFrom}
+use Rattle.answers.specs.Replies.{Replies, Refuses, startBy, writeBy, readBy, ticksBy, tachBy, pinBy, speedBy, readLine, fanFailLine, speedLine, cabinLine, okLine}
 
 -- "A line that is empty, blank, or whose first word begins with `#` is skipped"
 abbrev pub skippedOf : List (List ℕ) → Bool
@@ -36,19 +29,19 @@ skippedOf (word ∷ words) = eqb (getD word 0 0) 35
 -- a command's answer, and the state in hand after it: the buffer before and after, the index that the answer begins at, and the
 -- reply. `show` and `help` leave the state as it was; their lines are for a person
 module _ (s : State) (at : ℕ) (before after : List ℕ) (reply : Reply) where
-  abbrev pub Refusal : Answer → Type 0
-  Refusal a = Replies (refusalLine a) (a .state) at before after reply
+  abbrev Refusal : Answer → Type 0
+  Refusal a = Refuses a at before after reply
 
   abbrev pub Answers : Verb → List ℕ → Type 0
-  Answers Start v = Refusal (startOf (number v 0) (number v 1) (number v 2) (byteOf (number v 3)))
-  Answers Write v = Refusal (writeOf s (number v 0) (byteOf (number v 1)))
-  Answers Read v = Replies (readLine (readOf s (number v 0))) (readOf s (number v 0) .state) at before after reply
-  Answers Ticks v = Refusal (ticksPassed s (number v 0))
-  Answers Tach v = Refusal (resultOf s (number v 0) (number v 1))
-  Answers Pin v = Refusal (pinOf s (eqb (number v 0) 1))
+  Answers Start v = Refusal (startBy v)
+  Answers Write v = Refusal (writeBy s v)
+  Answers Read v = Replies (readLine (readBy s v)) (readBy s v .state) at before after reply
+  Answers Ticks v = Refusal (ticksBy s v)
+  Answers Tach v = Refusal (tachBy s v)
+  Answers Pin v = Refusal (pinBy s v)
   Answers Cabin v = Replies (cabinLine (readingOf s)) (readingOf s .state) at before after reply
   Answers FanFail v = Replies (fanFailLine (fanFailOf s)) (fanFailOf s .state) at before after reply
-  Answers Speed v = Replies (speedLine (speedOf (number v 0) (number v 1) (number v 2))) s at before after reply
+  Answers Speed v = Replies (speedLine (speedBy v)) s at before after reply
   Answers Dump v = Replies (answerLine (stateNumbers s)) s at before after reply
   Answers Load v = Replies okLine (stateFrom v) at before after reply
   Answers Show v = reply .state ≡ s
