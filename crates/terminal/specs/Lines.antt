@@ -1,16 +1,16 @@
 -- What a line answers, and the state in hand after it: the table of the console's lines.
-use Prim.Native.Nat.{ℕ, _≤_, _<_}
+use Prim.Native.Nat.{ℕ, _-_, _≤_, _<_}
 use mathlib.Core.Path.{_≡_}
 use mathlib.Core.Bool.{Bool, true, false}
 use mathlib.Core.List.{List, [], _∷_}
-use lib.ListN.{getD, replicate}
+use lib.ListN.{getD, take, replicate}
 use lib.Seq.{sets}
 use lib.Dec.{eqb}
 use Rattle.rules.specs.declared.State.{State}
 use Rattle.rules.specs.declared.Answer.{Answer}
 use Rattle.rules.specs.Reading.{readingOf}
 use Rattle.rules.specs.FanFail.{fanFailOf}
-use Rattle.text.specs.Words.{wordsOf}
+use Rattle.text.specs.Words.{wordsOf, counted}
 use Rattle.commands.specs.declared.Verb.{Verb}
 use Rattle.commands.specs.declared.Verb.the-variants.{Write, Read, Ticks, Tach, Pin, Cabin, FanFail, Speed, Start, Dump, Load, Show, Help}
 use Rattle.commands.specs.declared.Parsed.{Parsed}
@@ -61,3 +61,9 @@ module _ (s : State) (at : ℕ) (before after : List ℕ) (reply : Reply) where
     pub skipped : skippedOf (wordsOf line) ≡ true → (reply .state ≡ s) × (reply .at ≡ at) × (after ≡ before)
     pub too-long : skippedOf (wordsOf line) ≡ false → 4096 < long → reply .state ≡ s
     pub answered : skippedOf (wordsOf line) ≡ false → long ≤ 4096 → AnswersLine line
+
+  -- a line that has ended, with so many bytes kept of so many in all. "A carriage return before the line's end is ignored"
+  abbrev pub AnswersEnded : ℕ → ℕ → List ℕ → Type 0
+  AnswersEnded kept total line =
+      let end = counted (take kept line) in
+      AnswersWhole (total - (kept - end)) (take end line)

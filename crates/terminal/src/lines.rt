@@ -3,7 +3,7 @@ ghost use mathlib.Core.Path.{_≡_};
 ghost use Prim.Native.Nat.{_≤_};
 ghost use lib.ListN.{length};
 ghost use Rattle.text.specs.Words.{wordsOf};
-ghost use Rattle.terminal.specs.Lines.{skippedOf, AnswersLine, AnswersWhole};
+ghost use Rattle.terminal.specs.Lines.{skippedOf, AnswersLine, AnswersWhole, AnswersEnded};
 use crate::answer::end_line;
 use crate::answer::less;
 use crate::answer::put_decimal;
@@ -29,10 +29,6 @@ const LONGEST: usize = 4096;
 pub struct Gathered {
     pub kept: usize,
     pub total: usize,
-}
-
-pub fn nothing() -> Gathered {
-    Gathered { kept: 0, total: 0 }
 }
 
 // Whether a byte goes before the first word: those are counted and not kept, so that a line of blanks stays empty and a
@@ -176,6 +172,7 @@ pub fn answer(
     at: usize,
 ) -> Reply
     requires { ⌜ gathered .kept ≤ length (now line) ⌝ }
+    ensures { λ r. ⌜ AnswersEnded state at (now (out .entry)) (now (out .exit)) r (gathered .kept) (gathered .total) (now (line .entry)) ⌝ }
 {
     let kept = gathered.kept;
     let counted = text::line::end(&line[..kept]);

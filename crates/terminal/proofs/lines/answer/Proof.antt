@@ -1,4 +1,4 @@
--- `lines::answer` is safe. Assumes nothing.
+-- `lines::answer` meets its contract. Assumes nothing.
 use mathlib.Core.Path.{sym}
 use native.Mathlib.Omega.{arith}
 use lib.ListN.{take, length-take}
@@ -33,7 +33,8 @@ same-length : tie.Need-same-length
 same-length c = search needs
 
 returns : tie.Need-returns
-returns c = search needs
+returns c =
+    rw (c .before .before .before .before .before .less2 .ensures, c .before .before .before .before .before .before .less .ensures, c .before .before .before .before .before .before .before .end .ensures) at (c .before .before .answer-line .ensures)
 
 pub answer-spec : {M : Type 1} → statement M
 answer-spec =

@@ -1,9 +1,9 @@
--- `session::flush` meets its contract. Assumes nothing.
+-- `blocks::flush` meets its contract. Assumes nothing.
 use mathlib.Core.Path.{sym}
 use lib.Seq.{length-take-le}
 use borrow.Author.Needs.{needs}
-use Rattle.terminal.proofs.session.flush.Statement.{statement}
-use Rattle.terminal.proofs.session.flush.Tie as tie
+use Rattle.terminal.proofs.blocks.flush.Statement.{statement}
+use Rattle.terminal.proofs.blocks.flush.Tie as tie
 
 least-requires : tie.Need-least-requires
 least-requires c κs = search needs

@@ -1,10 +1,10 @@
--- `session::take_block` meets its contract. Assumes nothing.
+-- `blocks::take_block` meets its contract. Assumes nothing.
 use Prim.Native.Nat.{_-_, _≤_}
 use mathlib.Core.Path.{_≡_, refl, _∙_}
 use native.Mathlib.Omega.{arith}
 use lib.ListN.{length}
-use Rattle.terminal.proofs.session.take_block.Statement.{statement}
-use Rattle.terminal.proofs.session.take_block.Tie as tie
+use Rattle.terminal.proofs.blocks.take_block.Statement.{statement}
+use Rattle.terminal.proofs.blocks.take_block.Tie as tie
 
 abbrev Inv-loop : tie.InvT-loop
 Inv-loop output block line₀ out₀ next₀ from₀ line out next from =

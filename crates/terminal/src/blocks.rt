@@ -13,7 +13,7 @@ const LONGEST_ANSWER: usize = 4096;
 
 // What goes from one block to the next: the state in hand, how many lines have ended, the line that has not, and how
 // much of the output is not yet written.
-struct Session {
+struct Carried {
     state: State,
     lines: u32,
     kept: usize,
@@ -22,12 +22,12 @@ struct Session {
 }
 
 // "Before the first `start` or `load` the state in hand is the one that a refused start gives": no watchdog code is 4.
-fn begin() -> Session
+fn begin() -> Carried
     ensures { λ r. ⌜ r .kept ≡ 0 ⌝ }
 {
     let refused = start::start(4, 0, 0, 0);
     let state = refused.state;
-    Session {
+    Carried {
         state: state,
         lines: 0,
         kept: 0,
@@ -68,19 +68,19 @@ fn make_room(output: i32, out: &[u8], at: usize) -> usize {
 }
 
 // Answers a line that has ended.
-fn end_line(output: i32, line: &[u8], out: &mut [u8], session: Session) -> Session
-    requires { ⌜ session .kept ≤ length (now line) ⌝ }
+fn end_line(output: i32, line: &[u8], out: &mut [u8], carried: Carried) -> Carried
+    requires { ⌜ carried .kept ≤ length (now line) ⌝ }
     ensures { λ r. ⌜ r .kept ≡ 0 ⌝ }
 {
-    let lines = next_line(session.lines);
+    let lines = next_line(carried.lines);
     let gathered = Gathered {
-        kept: session.kept,
-        total: session.total,
+        kept: carried.kept,
+        total: carried.total,
     };
-    let reply = answer(line, gathered, lines, session.state, out, session.at);
+    let reply = answer(line, gathered, lines, carried.state, out, carried.at);
     let state = reply.state;
     let at = make_room(output, out, reply.at);
-    Session {
+    Carried {
         state: state,
         lines: lines,
         kept: 0,
@@ -90,14 +90,14 @@ fn end_line(output: i32, line: &[u8], out: &mut [u8], session: Session) -> Sessi
 }
 
 // Answers the line if it has ended.
-fn end_line_if(ended: bool, output: i32, line: &[u8], out: &mut [u8], session: Session) -> Session
-    requires { ⌜ session .kept ≤ length (now line) ⌝ }
+fn end_line_if(ended: bool, output: i32, line: &[u8], out: &mut [u8], carried: Carried) -> Carried
+    requires { ⌜ carried .kept ≤ length (now line) ⌝ }
     ensures { λ r. ⌜ r .kept ≤ length (now (line .entry)) ⌝ }
 {
     if ended {
-        return end_line(output, line, out, session);
+        return end_line(output, line, out, carried);
     }
-    session
+    carried
 }
 
 // The index of the next line feed, or the length where there is none.
@@ -115,16 +115,16 @@ fn feed_after(block: &[u8], from: usize) -> usize
     i
 }
 
-fn add(bytes: &[u8], line: &mut [u8], session: Session) -> Session
-    requires { ⌜ session .kept ≤ length (now line) ⌝ }
+fn add(bytes: &[u8], line: &mut [u8], carried: Carried) -> Carried
+    requires { ⌜ carried .kept ≤ length (now line) ⌝ }
     ensures { λ r. ⌜ r .kept ≤ length (now (line .entry)) ⌝ }
 {
     let gathered = Gathered {
-        kept: session.kept,
-        total: session.total,
+        kept: carried.kept,
+        total: carried.total,
     };
     let more = gather(bytes, line, gathered);
-    let mut next = session;
+    let mut next = carried;
     next.kept = more.kept;
     next.total = more.total;
     next
@@ -136,12 +136,12 @@ fn take_block(
     block: &[u8],
     line: &mut [u8],
     out: &mut [u8],
-    session: Session,
-) -> Session
-    requires { ⌜ session .kept ≤ length (now line) ⌝ }
+    carried: Carried,
+) -> Carried
+    requires { ⌜ carried .kept ≤ length (now line) ⌝ }
     ensures { λ r. ⌜ r .kept ≤ length (now (line .entry)) ⌝ }
 {
-    let mut next = session;
+    let mut next = carried;
     let mut from = 0;
     while from < block.len() {
         let to = feed_after(block, from);
@@ -153,10 +153,10 @@ fn take_block(
 }
 
 // Answers a last line without a line feed.
-fn finish(output: i32, line: &[u8], out: &mut [u8], session: Session)
-    requires { ⌜ session .kept ≤ length (now line) ⌝ }
+fn finish(output: i32, line: &[u8], out: &mut [u8], carried: Carried)
+    requires { ⌜ carried .kept ≤ length (now line) ⌝ }
 {
-    let last = end_line_if(0 < session.total, output, line, out, session);
+    let last = end_line_if(0 < carried.total, output, line, out, carried);
     flush(output, out, last.at);
 }
 
@@ -184,7 +184,7 @@ pub fn run(input: i32, output: i32) {
     let line: &mut [u8] = &mut line_space;
     let mut out_space = io::large_buffer();
     let out: &mut [u8] = &mut out_space;
-    let mut session = begin();
+    let mut carried = begin();
     // A proved loop has to end, and nothing says that the input does: this counts down from more reads than any run makes.
     let mut turns = 18446744073709551615u64;
     while 0 < turns {
@@ -192,10 +192,10 @@ pub fn run(input: i32, output: i32) {
         if n == 0 {
             break;
         }
-        session = take_block(output, &block[..n], line, out, session);
-        let at = flush(output, out, session.at);
-        session.at = at;
+        carried = take_block(output, &block[..n], line, out, carried);
+        let at = flush(output, out, carried.at);
+        carried.at = at;
         turns -= 1;
     }
-    finish(output, line, out, session);
+    finish(output, line, out, carried);
 }

@@ -1,16 +1,16 @@
--- `session::run` is safe and ends. Assumes nothing.
+-- `blocks::run` is safe and ends. Assumes nothing.
 use Prim.Native.Nat.{_≤_}
 use native.Mathlib.Omega.{arith}
 use lib.ListN.{length}
 use borrow.Author.Needs.{needs}
-use Rattle.terminal.proofs.session.run.Statement.{statement}
-use Rattle.terminal.proofs.session.run.Tie as tie
+use Rattle.terminal.proofs.blocks.run.Statement.{statement}
+use Rattle.terminal.proofs.blocks.run.Tie as tie
 
 abbrev Inv-loop : tie.InvT-loop
-Inv-loop input output block₀ line₀ out₀ session₀ turns₀ block line out session turns = session .kept ≤ length line
+Inv-loop input output block₀ line₀ out₀ carried₀ turns₀ block line out carried turns = carried .kept ≤ length line
 
 abbrev μ-loop : tie.MeasureT-loop
-μ-loop input output block₀ line₀ out₀ session₀ turns₀ block line out session turns = turns
+μ-loop input output block₀ line₀ out₀ carried₀ turns₀ block line out carried turns = turns
 
 large-buffer-requires : tie.Need-large-buffer-requires Inv-loop μ-loop
 large-buffer-requires c κs = search needs

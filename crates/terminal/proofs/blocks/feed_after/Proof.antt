@@ -1,9 +1,9 @@
--- `session::feed_after` meets its contract. Assumes nothing.
+-- `blocks::feed_after` meets its contract. Assumes nothing.
 use Prim.Native.Nat.{_-_, _≤_}
 use native.Mathlib.Omega.{arith}
 use lib.ListN.{length}
-use Rattle.terminal.proofs.session.feed_after.Statement.{statement}
-use Rattle.terminal.proofs.session.feed_after.Tie as tie
+use Rattle.terminal.proofs.blocks.feed_after.Statement.{statement}
+use Rattle.terminal.proofs.blocks.feed_after.Tie as tie
 
 abbrev Inv-loop : tie.InvT-loop
 Inv-loop block from i₀ i = (from ≤ i) × (i ≤ length block)
