@@ -22,3 +22,5 @@ pub use Rattle.rules.specs.declared.Speed.{Speed}
 pub use Rattle.rules.specs.declared.Speed.the-variants.{Rpm, Refused}
 pub use Rattle.rules.specs.declared.Reading.{Reading}
 pub use Rattle.rules.specs.declared.ReadingAnswer.{ReadingAnswer}
+pub use Rattle.rules.specs.declared.Call.{Call}
+pub use Rattle.rules.specs.declared.Call.the-variants.{Write, Read, Ticks, Tachometer, Pin}

@@ -135,6 +135,20 @@ pub struct ReadAnswer {
     pub state: State,
 }
 
+// A call that is handed a state and may change it. The two queries, which give the state back as it was, are none of these.
+pub enum Call {
+    // The address and the byte.
+    Write(u32, u8),
+    // The address.
+    Read(u32),
+    // How many ticks pass.
+    Ticks(u32),
+    // The channel, counted from 1, and the count of its tachometer.
+    Tachometer(u32, u32),
+    // FULL_SPEED is high.
+    Pin(bool),
+}
+
 // What a FAN_FAIL query gives back: whether it is asserted, how many unmasked channels have failed, and the lowest of
 // them (1 to 6), or 0.
 pub struct FanFailAnswer {

@@ -1,0 +1,39 @@
+-- A call as a value: one of those that are handed a state is made, or a list of them one after the other.
+use mathlib.Core.Path.{_≡_}
+use mathlib.Core.Bool.{true}
+use mathlib.Core.List.{List, [], _∷_}
+use Rattle.rules.specs.Types.{State, Answer, ReadAnswer, Call, Write, Read, Ticks, Tachometer, Pin}
+use Rattle.rules.specs.Valid.{validOf}
+use Rattle.rules.specs.Calls.{accepted, readAnswer}
+use Rattle.rules.specs.Write.{writeOf}
+use Rattle.rules.specs.Read.{readOf}
+use Rattle.rules.specs.Tick.{ticksPassed}
+use Rattle.rules.specs.Tachometer.{resultOf}
+use Rattle.rules.specs.Pin.{pinOf}
+
+-- a call that reads nothing answers byte 0
+abbrev pub withoutByte : Answer → ReadAnswer
+withoutByte a = readAnswer (a .refusal) 0 (a .state)
+
+-- the refusal, the byte of a read, and the state that is given back
+unfoldable pub made : State → Call → ReadAnswer
+made s (Write a b) = withoutByte (writeOf s a b)
+made s (Read a) = readOf s a
+made s (Ticks n) = withoutByte (ticksPassed s n)
+made s (Tachometer n count) = withoutByte (resultOf s n count)
+made s (Pin high) = withoutByte (pinOf s high)
+
+-- a list of calls, "each given the state that the one before left": an answer each, and the state that the last one leaves. A
+-- refused call changes nothing, and the list goes on
+unfoldable pub madeEach : State → List Call → List ReadAnswer
+madeEach s [] = []
+madeEach s (call ∷ calls) = made s call ∷ madeEach (made s call .state) calls
+
+unfoldable pub afterEach : State → List Call → State
+afterEach s [] = s
+afterEach s (call ∷ calls) = afterEach (made s call .state) calls
+
+-- demand 1: "a refused call that was handed a state gives the same state back"; "All given-back states after sound ones are sound"
+pub record Keeps (s : State) (call : Call) : Type 0 where
+  pub refused : (made s call .refusal ≡ accepted → ⊥) → made s call .state ≡ s
+  pub valid : validOf s ≡ true → validOf (made s call .state) ≡ true
