@@ -20,7 +20,7 @@ parts-out : (out : List ℕ) (at next : ℕ) (first second : List ℕ) → lengt
 parts-out out at next first second h g =
     rw (sets-out out at (first ++ second) h, sets-out out at first h) (sym (sets-out out next second g))
 
-parts-within : (first second out : List ℕ) (at next : ℕ) → at ≤ length out → next ≡ min (at + length first) (length out) →
+parts-within : (first second out : List ℕ) (at next : ℕ) → at ≤ length out → next ≡ min (at + length first) (length out + 1) →
     sets out at (first ++ second) ≡ sets (sets out at first) next second
 parts-within [] second out at next h e = let n : next ≡ at = omega arith in rw n
 parts-within (byte ∷ first) second out at next h e =
@@ -31,7 +31,7 @@ parts-within (byte ∷ first) second out at next h e =
       | no g ↦ parts-out out at next (byte ∷ first) second (omega arith) (omega arith)
     ]
 
-parts : (first second out : List ℕ) (at next : ℕ) → next ≡ max at (min (at + length first) (length out)) →
+parts : (first second out : List ℕ) (at next : ℕ) → next ≡ max at (min (at + length first) (length out + 1)) →
     sets out at (first ++ second) ≡ sets (sets out at first) next second
 parts first second out at next e =
     elim (decLt (length out) at) [
@@ -54,18 +54,10 @@ pub put-with-room : {at next : ℕ} {before after bytes : List ℕ} → Put byte
     (after ≡ take at before ++ bytes ++ drop (at + length bytes) before) × (next ≡ at + length bytes)
 put-with-room {at} {next} {before} {after} {bytes} p h = (p .stored ∙ sets-eq bytes before at h, omega arith)
 
--- one byte more stored, and none left
-pub sets-next : (out bytes : List ℕ) (at i : ℕ) → i < length bytes →
-    sets out at (drop i bytes) ≡ sets (set out at (getD bytes i 0)) (at + 1) (drop (i + 1) bytes)
-sets-next out bytes at i h = rw (add-one i, add-one at, drop-cons bytes i 0 h)
-
-pub sets-done : (out bytes : List ℕ) (at i : ℕ) → length bytes ≤ i → sets out at (drop i bytes) ≡ out
-sets-done out bytes at i h = rw (drop-of-length-le bytes h)
-
 -- ---- bytes put part by part: what is still to be put makes of the buffer what all of them make of it
 pub record Remains (rest : List ℕ) (next : ℕ) (out bytes : List ℕ) (at : ℕ) (before : List ℕ) : Type 0 where
   pub stored : sets out next rest ≡ sets before at bytes
-  pub index : max next (min (next + length rest) (length out)) ≡ max at (min (at + length bytes) (length before))
+  pub index : max next (min (next + length rest) (length out + 1)) ≡ max at (min (at + length bytes) (length before + 1))
   pub long : length out ≡ length before
 
 pub all-remains : (bytes : List ℕ) (at : ℕ) (out : List ℕ) → Remains bytes at out bytes at out
@@ -89,12 +81,30 @@ module _ {out bytes before : List ℕ} {next at : ℕ} where
         stored = rw (p .stored) (sym (parts first rest out next last (p .index)) ∙ r .stored);
         index =
             rw same
-            (both-end next last (length first) (length rest) (length out) (p .index) ∙ rw length-append at (r .index));
+            (both-end next last (length first) (length rest) (length out + 1) (p .index) ∙ rw length-append at (r .index));
         long = same ∙ r .long;
       }
 
   pub none-remains : Remains [] next out bytes at before → Put bytes at before out next
   none-remains r = record { stored = r .stored; index = omega (arith, r .index) }
+
+  -- past the buffer's end nothing more is stored; at its end a byte is left out
+  pub past-end : (rest : List ℕ) → length out < next → Remains rest next out bytes at before → Put bytes at before out next
+  past-end rest h r = record { stored = sym (sets-out out next rest (omega arith)) ∙ r .stored; index = omega (arith, r .index) }
+
+  pub at-end : (rest : List ℕ) → 0 < length rest → next ≡ length out → Remains rest next out bytes at before → Put bytes at before out (next + 1)
+  at-end rest some h r = record { stored = sym (sets-out out next rest (omega arith)) ∙ r .stored; index = omega (arith, r .index) }
+
+  -- byte after byte
+  module _ (i : ℕ) (r : Remains (drop i bytes) next out bytes at before) where
+    pub byte-put : i < length bytes → next < length out →
+        Remains (drop (i + 1) bytes) (next + 1) (set out next (getD bytes i 0)) bytes at before
+    byte-put h g =
+        part-put (getD bytes i 0 ∷ []) (drop (i + 1) bytes) (rw (drop-cons bytes i 0 h, sym (add-one i)) at r)
+        (record { stored = refl; index = omega arith })
+
+    pub bytes-done : length bytes ≤ i → Put bytes at before out next
+    bytes-done h = none-remains (rw (drop-of-length-le bytes h) at r)
 
 pub put-length : {at next : ℕ} {before after bytes : List ℕ} → Put bytes at before after next → length after ≡ length before
 put-length {at} {next} {before} {after} {bytes} p = rw (p .stored) (length-sets before at bytes)

@@ -1,5 +1,6 @@
 pub mod Number
 pub mod Words
 pub mod Put
+pub mod Frame
 pub mod Decimal
 pub mod Fraction

@@ -1,7 +1,8 @@
 // Bytes into a lent buffer.
 ghost use Rattle.text.specs.Put.{Put};
 
-// Puts bytes into a buffer from an index on, as many as there is room for, and gives the index after them.
+// Puts bytes into a buffer from an index on, as many as there is room for, and gives the index after them: past the
+// buffer's end where a byte was left out.
 pub fn put(bytes: &[u8], out: &mut [u8], at: usize) -> usize
     ensures { λ r. ⌜ Put (now (bytes .entry)) at (now (out .entry)) (now (out .exit)) r ⌝ }
 {
@@ -9,7 +10,10 @@ pub fn put(bytes: &[u8], out: &mut [u8], at: usize) -> usize
     let mut i = 0;
     while i < bytes.len() {
         if out.len() <= next {
-            return next;
+            if out.len() < next {
+                return next;
+            }
+            return next + 1;
         }
         out[next] = bytes[i];
         next += 1;
