@@ -3,7 +3,8 @@ ghost use mathlib.Core.Path.{_≡_};
 ghost use Prim.Native.Nat.{_+_, _-_, _<_, _≤_};
 ghost use lib.ListN.{length, drop};
 ghost use Rattle.text.specs.Put.{Put};
-ghost use Rattle.text.specs.Decimal.{digitsOf};
+ghost use Rattle.text.specs.Frame.{Frame};
+ghost use Rattle.text.specs.Decimal.{digitsOf, decimalOf};
 use crate::put::put;
 
 fn one_less(n: u32) -> u32
@@ -48,4 +49,35 @@ pub fn put_digits(n: u32, least: u32, out: &mut [u8], at: usize) -> usize
     let mut digits = [0u8; 10];
     let from = spell(n, least, &mut digits);
     put(&digits[from..], out, at)
+}
+
+// Puts a number with as few digits as it needs.
+pub fn put_decimal(n: u32, out: &mut [u8], at: usize) -> usize
+    ensures { λ r. ⌜ Put (decimalOf n) at (now (out .entry)) (now (out .exit)) r ⌝ }
+{
+    put_digits(n, 1, out, at)
+}
+
+// Where so many of ten places begin, or the digits where they begin before.
+fn column_start(digits: usize, width: usize) -> usize
+    ensures { λ r. ⌜ r ≤ digits ⌝ }
+{
+    if 10 <= width {
+        return 0;
+    }
+    let start = 10 - width;
+    if digits < start {
+        return digits;
+    }
+    start
+}
+
+// Puts a number for a person, with spaces in front up to so many places, ten at most.
+pub fn put_column(n: u32, width: usize, out: &mut [u8], at: usize) -> usize
+    ensures { λ r. ⌜ Frame 10 at (now (out .entry)) (now (out .exit)) r ⌝ }
+{
+    let mut places = [b' '; 10];
+    let digits = spell(n, 1, &mut places);
+    let from = column_start(digits, width);
+    put(&places[from..], out, at)
 }

@@ -1,4 +1,5 @@
 // Bytes into a lent buffer.
+ghost use mathlib.Core.List.{[], _∷_};
 ghost use Rattle.text.specs.Put.{Put};
 
 // Puts bytes into a buffer from an index on, as many as there is room for, and gives the index after them: past the
@@ -20,4 +21,10 @@ pub fn put(bytes: &[u8], out: &mut [u8], at: usize) -> usize
         i += 1;
     }
     next
+}
+
+pub fn end_line(out: &mut [u8], at: usize) -> usize
+    ensures { λ r. ⌜ Put (10 ∷ []) at (now (out .entry)) (now (out .exit)) r ⌝ }
+{
+    put(b"\n", out, at)
 }
