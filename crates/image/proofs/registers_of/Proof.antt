@@ -1,0 +1,39 @@
+-- `registers_of` meets its contract. Assumes nothing.
+use Rattle.image.specs.Image.{registersFrom}
+use borrow.Author.Needs.{needs}
+use Rattle.image.proofs.registers_of.Statement.{statement}
+use Rattle.image.proofs.registers_of.Tie as tie
+
+byte-requires : tie.Need-byte-requires
+byte-requires c κs = search needs
+
+mul-t4 : tie.Need-mul-t4
+mul-t4 c = search needs
+
+byte-requires-2 : tie.Need-byte-requires-2
+byte-requires-2 c κs = search needs
+
+byte-requires-3 : tie.Need-byte-requires-3
+byte-requires-3 c κs = search needs
+
+byte-requires-4 : tie.Need-byte-requires-4
+byte-requires-4 c κs = search needs
+
+byte-requires-5 : tie.Need-byte-requires-5
+byte-requires-5 c κs = search needs
+
+returns : tie.Need-returns
+unfolding registersFrom
+returns c = cc
+
+pub registers-of-spec : {M : Type 1} → statement M
+registers-of-spec =
+    tie.close
+    (tie.spec
+    byte-requires
+    mul-t4
+    byte-requires-2
+    byte-requires-3
+    byte-requires-4
+    byte-requires-5
+    returns)

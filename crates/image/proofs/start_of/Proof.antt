@@ -1,0 +1,25 @@
+-- `start_of` meets its contract. Assumes nothing.
+use Rattle.image.specs.Image.{startFrom}
+use borrow.Author.Needs.{needs}
+use Rattle.image.proofs.start_of.Statement.{statement}
+use Rattle.image.proofs.start_of.Tie as tie
+
+byte-requires : tie.Need-byte-requires
+byte-requires c κs = search needs
+
+byte-requires-2 : tie.Need-byte-requires-2
+byte-requires-2 c κs = search needs
+
+word-requires : tie.Need-word-requires
+word-requires c κs = search needs
+
+byte-requires-3 : tie.Need-byte-requires-3
+byte-requires-3 c κs = search needs
+
+returns : tie.Need-returns
+unfolding startFrom
+returns c = cc
+
+pub start-of-spec : {M : Type 1} → statement M
+start-of-spec =
+    tie.close (tie.spec byte-requires byte-requires-2 word-requires byte-requires-3 returns)

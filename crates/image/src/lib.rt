@@ -1,0 +1,293 @@
+// The state as its numbers, and back: `dump` and `load`. specs/ has the table of them.
+ghost use mathlib.Core.Path.{_≡_};
+ghost use Prim.Native.Nat.{_+_, _<_, _≤_};
+ghost use mathlib.Core.List.{_++_};
+ghost use lib.ListN.{length, take};
+ghost use lib.Seq.{paste};
+ghost use Rattle.rules.specs.Basics.{bit, flag as Basics·flag};
+ghost use Rattle.rules.specs.Read.{controlByte};
+ghost use Rattle.rules.specs.Duty.{faultByte};
+ghost use Rattle.image.specs.Image.{boxTable, channelTable, Numbers, numberCount, channelsNumbers, channelsLimits, limits, limitAt, Within, stateNumbers, number, byteOf, wordOf, longOf, channelFrom, channelAt, registersFrom, timerFrom, startFrom, stateFrom};
+use device::duty::fault_byte;
+use rules::Channel;
+use rules::Registers;
+use rules::StartValues;
+use rules::State;
+use rules::Timer;
+
+// How many numbers the box has, each channel, and a state.
+pub const BOX_NUMBERS: usize = 14;
+
+pub const CHANNEL_NUMBERS: usize = 9;
+
+pub const STATE_NUMBERS: usize = BOX_NUMBERS + 6 * CHANNEL_NUMBERS;
+
+// The most that each can be.
+const BOX_LIMITS: [u32; BOX_NUMBERS] = [
+    4294967295,
+    1,
+    255,
+    255,
+    63,
+    255,
+    255,
+    255,
+    1,
+    65535,
+    255,
+    255,
+    65535,
+    255,
+];
+
+const CHANNEL_LIMITS: [u32; CHANNEL_NUMBERS] = [
+    255,
+    255,
+    65535,
+    65535,
+    65535,
+    65535,
+    65535,
+    255,
+    255,
+];
+
+pub fn limit(i: usize) -> u32
+    ensures { λ r. ⌜ r ≡ limitAt i ⌝ }
+{
+    if i < BOX_NUMBERS {
+        return BOX_LIMITS[i];
+    }
+    if i < STATE_NUMBERS {
+        return CHANNEL_LIMITS[(i - BOX_NUMBERS) % CHANNEL_NUMBERS];
+    }
+    0
+}
+
+// ---- the numbers of a state
+
+fn flag(on: bool) -> u32
+    ensures { λ r. ⌜ (r ≡ Basics·flag on) × (r ≤ 1) ⌝ }
+{
+    if on {
+        return 1;
+    }
+    0
+}
+
+// 00h as it reads.
+fn control_byte(control: u8, status: bool) -> u32
+    ensures { λ r. ⌜ (r ≡ controlByte control status) × (r ≤ 255) ⌝ }
+{
+    control as u32 / 2 % 128 * 2 + flag(status)
+}
+
+// 11h as it reads.
+fn faults(channels: [Channel; 6]) -> u32
+    ensures { λ r. ⌜ (r ≡ faultByte channels) × (r ≤ 63) ⌝ }
+{
+    fault_byte(channels) as u32
+}
+
+fn box_numbers(state: State) -> [u32; BOX_NUMBERS]
+    ensures { λ r. ⌜ Numbers boxTable state r ⌝ }
+{
+    let channels = state.channels;
+    let registers = state.registers;
+    let timer = state.timer;
+    let start = state.start;
+    [
+        timer.clock,
+        flag(state.pin),
+        control_byte(registers.control, timer.status),
+        registers.frequency as u32,
+        faults(channels),
+        registers.mask2 as u32,
+        registers.mask1 as u32,
+        registers.options as u32,
+        flag(timer.expired),
+        timer.idle as u32,
+        start.watchdog as u32,
+        start.spinup as u32,
+        start.target as u32,
+        start.frequency as u32,
+    ]
+}
+
+fn channel_numbers(channel: Channel) -> [u32; CHANNEL_NUMBERS]
+    ensures { λ r. ⌜ Numbers channelTable channel r ⌝ }
+{
+    [
+        channel.config as u32,
+        channel.dynamics as u32,
+        channel.count as u32,
+        channel.ramp as u32,
+        channel.spin as u32,
+        channel.target as u32,
+        channel.target_count as u32,
+        channel.window as u32,
+        channel.queue as u32,
+    ]
+}
+
+// Numbers into others, from an index on.
+fn put_numbers(part: &[u32], numbers: &mut [u32], at: usize)
+    requires { ⌜ at + length (now part) ≤ length (now numbers) ⌝ }
+    ensures { λ r. ⌜ now (numbers .exit) ≡ paste (now (numbers .entry)) at (now (part .entry)) (length (now (part .entry))) ⌝ }
+{
+    let mut i = 0;
+    while i < part.len() {
+        numbers[at + i] = part[i];
+        i += 1;
+    }
+}
+
+// The numbers of the channels, after those of the box.
+fn put_channels(channels: [Channel; 6], numbers: &mut [u32])
+    requires { ⌜ length (now numbers) ≡ numberCount ⌝ }
+    ensures { λ r. ⌜ now (numbers .exit) ≡ take (length boxTable) (now (numbers .entry)) ++ channelsNumbers channels ⌝ }
+    ensures { λ r. ⌜ Within (channelsLimits 6) (channelsNumbers channels) ⌝ }
+{
+    for i in 0..6usize {
+        let own = channel_numbers(channels[i]);
+        put_numbers(&own, numbers, BOX_NUMBERS + i * CHANNEL_NUMBERS);
+    }
+}
+
+// The numbers of a state, which are within the limits.
+pub fn numbers_of(state: State) -> [u32; STATE_NUMBERS]
+    ensures { λ r. ⌜ (r ≡ stateNumbers state) × Within limits r ⌝ }
+{
+    let channels = state.channels;
+    let shared = box_numbers(state);
+    let mut numbers = [0u32; STATE_NUMBERS];
+    put_numbers(&shared, &mut numbers, 0);
+    put_channels(channels, &mut numbers);
+    numbers
+}
+
+// ---- the state of its numbers
+
+// A number of the values, 0 where there are not so many; its low bits, as much as a u8 or a u16 holds; a bit of it.
+fn value(values: &[u32], i: usize) -> u32
+    ensures { λ r. ⌜ r ≡ number (now (values .entry)) i ⌝ }
+{
+    if i < values.len() {
+        return values[i];
+    }
+    0
+}
+
+fn long(values: &[u32], i: usize) -> u32
+    ensures { λ r. ⌜ r ≡ longOf (number (now (values .entry)) i) ⌝ }
+{
+    value(values, i)
+}
+
+fn byte(values: &[u32], i: usize) -> u8
+    ensures { λ r. ⌜ r ≡ byteOf (number (now (values .entry)) i) ⌝ }
+{
+    (value(values, i) % 256) as u8
+}
+
+fn word(values: &[u32], i: usize) -> u16
+    ensures { λ r. ⌜ r ≡ wordOf (number (now (values .entry)) i) ⌝ }
+{
+    (value(values, i) % 65536) as u16
+}
+
+fn is_set(values: &[u32], i: usize, k: usize) -> bool
+    requires { ⌜ k < 6 ⌝ }
+    ensures { λ r. ⌜ r ≡ bit k (number (now (values .entry)) i) ⌝ }
+{
+    (value(values, i) >> k) % 2 == 1
+}
+
+// The channel that its own numbers make.
+fn channel_of(own: &[u32], fault: bool) -> Channel
+    ensures { λ r. ⌜ r ≡ channelFrom fault (now (own .entry)) ⌝ }
+{
+    Channel {
+        config: byte(own, 0),
+        dynamics: byte(own, 1),
+        window: byte(own, 7),
+        target: word(own, 5),
+        target_count: word(own, 6),
+        count: word(own, 2),
+        queue: byte(own, 8),
+        fault: fault,
+        ramp: word(own, 3),
+        spin: word(own, 4),
+    }
+}
+
+// The channel with an index from 0 to 5.
+fn channel_at(values: &[u32], i: usize) -> Channel
+    requires { ⌜ i < 6 ⌝ }
+    ensures { λ r. ⌜ r ≡ channelAt (now (values .entry)) i ⌝ }
+{
+    let fault = is_set(values, 4, i);
+    let from = BOX_NUMBERS + i * CHANNEL_NUMBERS;
+    if from <= values.len() {
+        return channel_of(&values[from..], fault);
+    }
+    channel_of(&[], fault)
+}
+
+fn registers_of(values: &[u32]) -> Registers
+    ensures { λ r. ⌜ r ≡ registersFrom (now (values .entry)) ⌝ }
+{
+    Registers {
+        control: byte(values, 2) / 2 * 2,
+        frequency: byte(values, 3),
+        mask2: byte(values, 5),
+        mask1: byte(values, 6),
+        options: byte(values, 7),
+    }
+}
+
+fn timer_of(values: &[u32]) -> Timer
+    ensures { λ r. ⌜ r ≡ timerFrom (now (values .entry)) ⌝ }
+{
+    Timer {
+        clock: long(values, 0),
+        idle: word(values, 9),
+        expired: is_set(values, 8, 0),
+        status: is_set(values, 2, 0),
+    }
+}
+
+fn start_of(values: &[u32]) -> StartValues
+    ensures { λ r. ⌜ r ≡ startFrom (now (values .entry)) ⌝ }
+{
+    StartValues {
+        watchdog: byte(values, 10),
+        spinup: byte(values, 11),
+        target: word(values, 12),
+        frequency: byte(values, 13),
+    }
+}
+
+// The state that its numbers make; those that are missing are 0.
+pub fn state_of(values: &[u32]) -> State
+    ensures { λ r. ⌜ r ≡ stateFrom (now (values .entry)) ⌝ }
+{
+    let channels = [
+        channel_at(values, 0),
+        channel_at(values, 1),
+        channel_at(values, 2),
+        channel_at(values, 3),
+        channel_at(values, 4),
+        channel_at(values, 5),
+    ];
+    let registers = registers_of(values);
+    let start = start_of(values);
+    let timer = timer_of(values);
+    State {
+        channels: channels,
+        registers: registers,
+        pin: is_set(values, 1, 0),
+        start: start,
+        timer: timer,
+    }
+}
