@@ -39,3 +39,15 @@ frame-then {m} {n} {at} {next} {last} {before} {between} {after} f g =
 
 pub frame-looser : {m n at next : ℕ} {before after : List ℕ} → m ≤ n → Frame m at before after next → Frame n at before after next
 frame-looser h f = record { kept = f .kept; long = f .long; grows = f .grows; within = omega arith }
+
+-- two, three or four texts one after the other
+module _ {most m n at next third : ℕ} {before between after : List ℕ} (f : Frame m at before between next) (g : Frame n next between after third) where
+  pub frames-2 : m + n ≤ most → Frame most at before after third
+  frames-2 h = frame-looser h (frame-then f g)
+
+  module _ {k fourth : ℕ} {later : List ℕ} (i : Frame k third after later fourth) where
+    pub frames-3 : m + n + k ≤ most → Frame most at before later fourth
+    frames-3 h = frame-looser h (frame-then (frame-then f g) i)
+
+    pub frames-4 : {l last : ℕ} {end : List ℕ} → Frame l fourth later end last → m + n + k + l ≤ most → Frame most at before end last
+    frames-4 j h = frame-looser h (frame-then (frame-then (frame-then f g) i) j)

@@ -1,4 +1,5 @@
 -- `decimal::put_column` meets its contract. Assumes nothing.
+use mathlib.Core.Path.{refl}
 use native.Mathlib.Omega.{arith}
 use lib.ListN.{length-take}
 use Rattle.text.proofs.Frames.{put-frame, frame-looser}
@@ -7,25 +8,25 @@ use Rattle.text.proofs.decimal.put_column.Statement.{statement}
 use Rattle.text.proofs.decimal.put_column.Tie as tie
 
 slice-aggregate-spell : tie.Need-slice-aggregate-spell
-slice-aggregate-spell c = search needs
+slice-aggregate-spell c = refl
 
 spell-requires : tie.Need-spell-requires
-spell-requires c κs = search needs
+spell-requires c κs = refl
 
 column-start-requires : tie.Need-column-start-requires
-column-start-requires c κs = search needs
+column-start-requires c κs = tt
 
 sub-put : tie.Need-sub-put
-sub-put c = search needs
+sub-put c = omega arith
 
 part-put-start : tie.Need-part-put-start
-part-put-start c = search needs
+part-put-start c = omega arith
 
 part-put-end : tie.Need-part-put-end
-part-put-end c = search needs
+part-put-end c = omega arith
 
 put-requires : tie.Need-put-requires
-put-requires c κs = search needs
+put-requires c κs = tt
 
 same-length : tie.Need-same-length
 same-length c = search needs

@@ -1,6 +1,6 @@
 -- `decimal::put_digits` meets its contract. Assumes nothing.
 use Prim.Native.Nat.{_-_}
-use mathlib.Core.Path.{_≡_}
+use mathlib.Core.Path.{_≡_, refl}
 use native.Mathlib.Omega.{arith}
 use lib.ListN.{take, drop, length-drop}
 use lib.Seq.{take-all}
@@ -9,22 +9,22 @@ use Rattle.text.proofs.decimal.put_digits.Statement.{statement}
 use Rattle.text.proofs.decimal.put_digits.Tie as tie
 
 slice-aggregate-spell : tie.Need-slice-aggregate-spell
-slice-aggregate-spell c = search needs
+slice-aggregate-spell c = refl
 
 spell-requires : tie.Need-spell-requires
-spell-requires c κs = search needs
+spell-requires c κs = refl
 
 sub-put : tie.Need-sub-put
-sub-put c = search needs
+sub-put c = omega arith
 
 part-put-start : tie.Need-part-put-start
-part-put-start c = search needs
+part-put-start c = omega arith
 
 part-put-end : tie.Need-part-put-end
-part-put-end c = search needs
+part-put-end c = omega arith
 
 put-requires : tie.Need-put-requires
-put-requires c κs = search needs
+put-requires c κs = tt
 
 same-length : tie.Need-same-length
 same-length c = search needs

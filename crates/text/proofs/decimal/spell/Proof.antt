@@ -5,7 +5,6 @@ use mathlib.Core.List.{_++_, append-nil}
 use mathlib.Core.Logic.{⊎-elim}
 use native.Mathlib.Omega.{arith}
 use lib.ListN.{length, drop, length-set}
-use borrow.Author.Needs.{needs}
 use Rattle.text.specs.Decimal.{digitsWithin, digitsOf}
 use Rattle.text.proofs.Spelling.{none-owed, none-left, none-put, digit-put}
 use Rattle.text.proofs.decimal.spell.Statement.{statement}
@@ -31,19 +30,19 @@ returns c =
     (loop .inv .0, rw (c .before .if1 .taken, c .if2 .taken, none-owed (loop .from)) at (loop .inv .2))
 
 sub-from : tie.Need-sub-from Inv-loop μ-loop
-sub-from c = search needs
+sub-from c = omega arith
 
 glyph-requires : tie.Need-glyph-requires Inv-loop μ-loop
-glyph-requires c κs = search needs
+glyph-requires c κs = omega arith
 
 slice-write-digits : tie.Need-slice-write-digits Inv-loop μ-loop
-slice-write-digits c = search needs
+slice-write-digits c = omega arith
 
 one-less-requires : tie.Need-one-less-requires Inv-loop μ-loop
-one-less-requires c κs = search needs
+one-less-requires c κs = tt
 
 loop-less : tie.Need-loop-less Inv-loop μ-loop
-loop-less c = search needs
+loop-less c = omega arith
 
 one-owed : (c : tie.Joined1 Inv-loop μ-loop) → c .before .before .loop .rest ≡ 0 → c .before .before .loop .owed ≡ 0 → ⊥
 one-owed c none last = ⊎-elim (λ w. w .1 .left last) (λ w. w .left none) (c .if1 .came)

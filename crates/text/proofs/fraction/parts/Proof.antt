@@ -3,7 +3,6 @@ use Prim.Native.Nat.{_+_, _-_, _^_, _≤_}
 use mathlib.Core.Path.{_≡_, refl, sym, _∙_}
 use native.Mathlib.Omega.{arith}
 use lib.Pow.{pow-pos}
-use borrow.Author.Needs.{needs}
 use Rattle.text.specs.Fraction.{partsAfter, partsOf}
 use Rattle.text.proofs.Exact.{halves, parts-more, parts-same, parts-done}
 use Rattle.text.proofs.fraction.parts.Statement.{statement}
@@ -21,7 +20,7 @@ unfolding partsOf
 loop-holds c = (omega arith, omega arith, refl)
 
 sub-bit : tie.Need-sub-bit Inv-loop μ-loop
-sub-bit c = search needs
+sub-bit c = omega arith
 
 power-requires : tie.Need-power-requires Inv-loop μ-loop
 power-requires c κs = omega arith
@@ -33,7 +32,7 @@ over-512-requires : tie.Need-over-512-requires Inv-loop μ-loop
 over-512-requires c κs = omega (arith, halves (c .before .before .loop .bit) (omega arith), pow-pos (c .before .before .loop .bit - 1))
 
 loop-less : tie.Need-loop-less Inv-loop μ-loop
-loop-less c = search needs
+loop-less c = omega arith
 
 loop-again : tie.Need-loop-again Inv-loop μ-loop
 loop-again c =
@@ -47,7 +46,7 @@ loop-again c =
     )
 
 loop-less-2 : tie.Need-loop-less-2 Inv-loop μ-loop
-loop-less-2 c = search needs
+loop-less-2 c = omega arith
 
 loop-again-2 : tie.Need-loop-again-2 Inv-loop μ-loop
 loop-again-2 c =

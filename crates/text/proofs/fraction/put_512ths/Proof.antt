@@ -1,5 +1,6 @@
 -- `fraction::put_512ths` meets its contract. Assumes nothing.
-use mathlib.Core.Path.{sym}
+use native.Mathlib.Omega.{arith}
+use mathlib.Core.Path.{refl, sym}
 use borrow.Author.Needs.{needs}
 use Rattle.text.specs.Fraction.{nineDecimals}
 use Rattle.text.proofs.Stores.{put-append}
@@ -7,22 +8,22 @@ use Rattle.text.proofs.fraction.put_512ths.Statement.{statement}
 use Rattle.text.proofs.fraction.put_512ths.Tie as tie
 
 parts-requires : tie.Need-parts-requires
-parts-requires c κs = search needs
+parts-requires c κs = tt
 
 put-digits-requires : tie.Need-put-digits-requires
-put-digits-requires c κs = search needs
+put-digits-requires c κs = tt
 
 slice-aggregate-put : tie.Need-slice-aggregate-put
-slice-aggregate-put c = search needs
+slice-aggregate-put c = refl
 
 put-requires : tie.Need-put-requires
-put-requires c κs = search needs
+put-requires c κs = tt
 
 mul-put-digits : tie.Need-mul-put-digits
-mul-put-digits c = search needs
+mul-put-digits c = omega arith
 
 put-digits-requires-2 : tie.Need-put-digits-requires-2
-put-digits-requires-2 c κs = search needs
+put-digits-requires-2 c κs = tt
 
 same-length : tie.Need-same-length
 same-length c = search needs

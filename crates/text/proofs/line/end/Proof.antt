@@ -1,6 +1,6 @@
 -- `line::end` meets its contract. Assumes nothing.
+use native.Mathlib.Omega.{arith}
 use mathlib.Core.Path.{sym}
-use borrow.Author.Needs.{needs}
 use Rattle.text.proofs.Runs.{counted-none, counted-less, counted-all}
 use Rattle.text.proofs.line.end.Statement.{statement}
 use Rattle.text.proofs.line.end.Tie as tie
@@ -9,10 +9,10 @@ returns : tie.Need-returns
 returns c = sym (counted-none (c .before .args .line .now) (c .if1 .taken))
 
 sub-last : tie.Need-sub-last
-sub-last c = search needs
+sub-last c = omega arith
 
 shared-slice-read-if2 : tie.Need-shared-slice-read-if2
-shared-slice-read-if2 c = search needs
+shared-slice-read-if2 c = omega arith
 
 returns-2 : tie.Need-returns-2
 returns-2 c = sym (counted-less (c .before .before .before .args .line .now) (c .if2 .taken))

@@ -1,11 +1,10 @@
 -- `line::next_word` meets its contract. Assumes nothing.
-use borrow.Author.Needs.{needs}
 use Rattle.text.proofs.Runs.{finds-nothing, finds-word}
 use Rattle.text.proofs.line.next_word.Statement.{statement}
 use Rattle.text.proofs.line.next_word.Tie as tie
 
 past-requires : tie.Need-past-requires
-past-requires c κs = search needs
+past-requires c κs = tt
 
 returns : tie.Need-returns
 returns c =
@@ -13,7 +12,7 @@ returns c =
     finds-nothing (start .args .line .now) (start .args .from) _ (c .before .past .ensures) (c .if1 .taken)
 
 past-requires-2 : tie.Need-past-requires-2
-past-requires-2 c κs = search needs
+past-requires-2 c κs = tt
 
 returns-2 : tie.Need-returns-2
 returns-2 c =

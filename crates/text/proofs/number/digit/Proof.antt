@@ -13,10 +13,10 @@ returns c =
     simp (lt-leb 48 byte (omega arith), lt-leb 65 byte (omega arith), lt-leb 97 byte (omega arith))
 
 wide-requires : tie.Need-wide-requires
-wide-requires c κs = search needs
+wide-requires c κs = tt
 
 sub-result : tie.Need-sub-result
-sub-result c = search needs
+sub-result c = omega arith
 
 returns-2 : tie.Need-returns-2
 unfolding digitOf
@@ -31,10 +31,10 @@ returns-3 c =
     simp (le-leb 48 byte (omega arith), lt-leb byte 57 (omega arith), lt-leb 65 byte (omega arith), lt-leb 97 byte (omega arith))
 
 wide-requires-2 : tie.Need-wide-requires-2
-wide-requires-2 c κs = search needs
+wide-requires-2 c κs = tt
 
 sub-result-2 : tie.Need-sub-result-2
-sub-result-2 c = search needs
+sub-result-2 c = omega arith
 
 returns-4 : tie.Need-returns-4
 unfolding digitOf
@@ -49,10 +49,10 @@ returns-5 c =
     simp (le-leb 48 byte (omega arith), lt-leb byte 57 (omega arith), le-leb 65 byte (omega arith), lt-leb byte 70 (omega arith), lt-leb 97 byte (omega arith))
 
 wide-requires-3 : tie.Need-wide-requires-3
-wide-requires-3 c κs = search needs
+wide-requires-3 c κs = tt
 
 sub-result-3 : tie.Need-sub-result-3
-sub-result-3 c = search needs
+sub-result-3 c = omega arith
 
 returns-6 : tie.Need-returns-6
 unfolding digitOf

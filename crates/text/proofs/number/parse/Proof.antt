@@ -1,14 +1,13 @@
 -- `number::parse` meets its contract. Assumes nothing.
 use mathlib.Core.Path.{sym, _∙_}
 use native.Mathlib.Omega.{arith}
-use borrow.Author.Needs.{needs}
 use Rattle.text.specs.Number.{numberOf}
 use Rattle.text.proofs.Digits.{prefix-long}
 use Rattle.text.proofs.number.parse.Statement.{statement}
 use Rattle.text.proofs.number.parse.Tie as tie
 
 is-prefixed-requires : tie.Need-is-prefixed-requires
-is-prefixed-requires c κs = search needs
+is-prefixed-requires c κs = tt
 
 in-base-requires : tie.Need-in-base-requires
 in-base-requires c κs =
@@ -20,7 +19,7 @@ returns c =
     rw (sym (c .before .before .is-prefixed .ensures) ∙ c .before .if1 .taken) (c .in-base .ensures)
 
 in-base-requires-2 : tie.Need-in-base-requires-2
-in-base-requires-2 c κs = search needs
+in-base-requires-2 c κs = omega arith
 
 returns-2 : tie.Need-returns-2
 unfolding numberOf

@@ -1,0 +1,56 @@
+// Texts for a person. Each promises a frame: what stands before it stays, and how long it is at most.
+ghost use Prim.Native.Nat.{_+_, _*_, _≤_, max};
+ghost use lib.ListN.{length};
+ghost use Rattle.text.specs.Frame.{Frame};
+use text::decimal::put_column;
+use text::put::put;
+
+pub fn put_text(bytes: &[u8], out: &mut [u8], at: usize) -> usize
+    ensures { λ r. ⌜ Frame (length (now (bytes .entry))) at (now (out .entry)) (now (out .exit)) r ⌝ }
+{
+    put(bytes, out, at)
+}
+
+// Puts one of two texts.
+pub fn put_either(first: bool, one: &[u8], other: &[u8], out: &mut [u8], at: usize) -> usize
+    ensures { λ r. ⌜ Frame (max (length (now (one .entry))) (length (now (other .entry)))) at (now (out .entry)) (now (out .exit)) r ⌝ }
+{
+    if first {
+        return put_text(one, out, at);
+    }
+    put_text(other, out, at)
+}
+
+// Past the bytes of a form from an index on that are places of a number, or past those that are not.
+fn past(form: &[u8], from: usize, place: bool) -> usize
+    requires { ⌜ from ≤ length (now form) ⌝ }
+    ensures { λ r. ⌜ (from ≤ r) × (r ≤ length (now (form .entry))) ⌝ }
+{
+    let mut i = from;
+    while i < form.len() {
+        if (form[i] == b'#') != place {
+            return i;
+        }
+        i += 1;
+    }
+    i
+}
+
+// Puts a form with numbers in it: each run of `#` is the place of the next number, which ends where the run ends, or
+// further on where it has more digits.
+pub fn put_form(form: &[u8], numbers: &[u32], out: &mut [u8], at: usize) -> usize
+    ensures { λ r. ⌜ Frame (length (now (form .entry)) + 10 * length (now (numbers .entry))) at (now (out .entry)) (now (out .exit)) r ⌝ }
+{
+    let mut next = at;
+    let mut from = 0;
+    let mut i = 0;
+    while i < numbers.len() {
+        let place = past(form, from, false);
+        let end = past(form, place, true);
+        let begin = put(&form[from..place], out, next);
+        next = put_column(numbers[i], end - place, out, begin);
+        from = end;
+        i += 1;
+    }
+    put(&form[from..], out, next)
+}
