@@ -2,8 +2,11 @@
 ghost use mathlib.Core.Path.{_≡_};
 ghost use Prim.Native.Nat.{_≤_};
 ghost use Rattle.rules.specs.Basics.{flag};
-ghost use Rattle.rules.specs.Tick.{overridden};
-ghost use Rattle.rules.specs.Duty.{faultByte, conditionsOf, failedFan, overrideOf, ownDuty, outputDuty};
+ghost use Rattle.rules.specs.Tick.{wanted, overridden};
+ghost use Rattle.rules.specs.Duty.{faultByte, conditionsOf, failedFan, overrideBy, overrideOf, ownDuty, outputDuty};
+use registers::fields::failed_fan_option;
+use registers::fields::monitor_only;
+use registers::fields::standby;
 use rules::Channel;
 use rules::Conditions;
 use rules::Override;
@@ -38,9 +41,9 @@ pub fn conditions(state: State) -> Conditions
     let channels = state.channels;
     Conditions {
         pin: state.pin,
-        standby: state.registers.control / 128 % 2 == 1,
+        standby: standby(state.registers.control),
         expired: state.timer.expired,
-        option: state.registers.options / 4 % 4,
+        option: failed_fan_option(state.registers.options),
         faulty: !(fault_byte(channels) == 0),
     }
 }
@@ -60,11 +63,11 @@ fn failed_fan(option: u8, fault: bool, faulty: bool) -> Override
     Override::None
 }
 
-// The override in force on a channel, if there is one.
-pub fn override_of(conditions: Conditions, channel: Channel) -> Override
-    ensures { λ r. ⌜ r ≡ overrideOf conditions channel ⌝ }
+// The override on a channel that is monitor only or not and has its fault bit set or not.
+pub fn override_by(conditions: Conditions, monitor: bool, fault: bool) -> Override
+    ensures { λ r. ⌜ r ≡ overrideBy conditions monitor fault ⌝ }
 {
-    if channel.config / 16 % 2 == 1 {
+    if monitor {
         return Override::Duty(0);
     }
     if !conditions.pin {
@@ -76,7 +79,14 @@ pub fn override_of(conditions: Conditions, channel: Channel) -> Override
     if conditions.expired {
         return Override::Duty(511);
     }
-    failed_fan(conditions.option, channel.fault, conditions.faulty)
+    failed_fan(conditions.option, fault, conditions.faulty)
+}
+
+// The override in force on a channel, if there is one.
+pub fn override_of(conditions: Conditions, channel: Channel) -> Override
+    ensures { λ r. ⌜ r ≡ overrideOf conditions channel ⌝ }
+{
+    override_by(conditions, monitor_only(channel.config), channel.fault)
 }
 
 // Whether an override is in force on a channel.
@@ -109,4 +119,11 @@ pub fn output_duty(conditions: Conditions, channel: Channel) -> u16
         Override::Duty(duty) => duty,
         Override::None => own_duty(channel),
     }
+}
+
+// The duty that a channel ramps to.
+pub fn wanted(channel: Channel) -> u16
+    ensures { λ r. ⌜ r ≡ wanted channel ⌝ }
+{
+    channel.target
 }

@@ -1,9 +1,11 @@
 // Whether a state is valid: the test of refusal 1.
 ghost use mathlib.Core.Path.{_≡_};
 ghost use Rattle.rules.specs.Basics.{every};
-ghost use Rattle.rules.specs.Registers.{watchdogCode};
-ghost use Rattle.rules.specs.Time.{watchdogLimit};
 ghost use Rattle.rules.specs.Valid.{validSettings, validResults, validMotion, validChannel, validRegisters, validStart, validTimer, validOf};
+use crate::codes::watchdog_limit;
+use registers::fields::monitor_only;
+use registers::fields::standby;
+use registers::fields::watchdog_code;
 use registers::kept::config_refused;
 use registers::kept::control_kept;
 use registers::kept::dynamics_kept;
@@ -30,20 +32,20 @@ fn valid_results(channel: Channel) -> bool
     (channel.count < 2048) & (channel.queue <= 6)
 }
 
-fn valid_motion(stopped: bool, channel: Channel) -> bool
-    ensures { λ r. ⌜ r ≡ validMotion stopped channel ⌝ }
+fn valid_motion(still: bool, channel: Channel) -> bool
+    ensures { λ r. ⌜ r ≡ validMotion still channel ⌝ }
 {
     (channel.ramp < 512)
         & (channel.spin <= 1024)
-        & (!stopped | ((channel.ramp == 0) & (channel.spin == 0)))
+        & (!still | ((channel.ramp == 0) & (channel.spin == 0)))
         & (!(0 < channel.spin) | (channel.ramp == 511))
 }
 
 fn valid_channel(in_standby: bool, channel: Channel) -> bool
     ensures { λ r. ⌜ r ≡ validChannel «in_standby» channel ⌝ }
 {
-    let monitor = channel.config / 16 % 2 == 1;
-    valid_settings(channel) & valid_results(channel) & valid_motion(in_standby | monitor, channel)
+    let still = in_standby | monitor_only(channel.config);
+    valid_settings(channel) & valid_results(channel) & valid_motion(still, channel)
 }
 
 fn valid_channels(in_standby: bool, channels: [Channel; 6]) -> bool
@@ -67,30 +69,20 @@ fn valid_registers(registers: Registers) -> bool
         & (options_kept(registers.options) == registers.options)
 }
 
-// Whether the pin-set values are in range: the test of refusal 7, too.
-pub fn valid_start(start: StartValues) -> bool
+// Whether the pin-set values are in range. Start refuses larger numbers than these types hold, so it tests them itself.
+fn valid_start(start: StartValues) -> bool
     ensures { λ r. ⌜ r ≡ validStart start ⌝ }
 {
     (start.watchdog < 4) & (start.spinup < 4) & (start.target < 512)
 }
 
-const WATCHDOG_LIMITS: [u16; 4] = [0, 2560, 5120, 15360];
-
-// The idle ticks after which the watchdog expires, 0 where it is off.
-pub fn watchdog_limit(registers: Registers) -> u16
-    ensures { λ r. ⌜ r ≡ watchdogLimit (watchdogCode registers) ⌝ }
+fn valid_timer(code: u8, timer: Timer) -> bool
+    ensures { λ r. ⌜ r ≡ validTimer code timer ⌝ }
 {
-    let code = registers.control / 2 % 4;
-    WATCHDOG_LIMITS[code as usize]
-}
-
-fn valid_timer(registers: Registers, timer: Timer) -> bool
-    ensures { λ r. ⌜ r ≡ validTimer (watchdogCode registers) timer ⌝ }
-{
-    if registers.control / 2 % 4 == 0 {
+    if code == 0 {
         return (timer.idle == 0) & !timer.expired;
     }
-    let limit = watchdog_limit(registers);
+    let limit = watchdog_limit(code);
     if timer.expired {
         return timer.idle == limit;
     }
@@ -106,6 +98,6 @@ pub fn valid(state: State) -> bool
     let channels = state.channels;
     valid_registers(registers)
         & valid_start(start)
-        & valid_timer(registers, timer)
-        & valid_channels(registers.control / 128 % 2 == 1, channels)
+        & valid_timer(watchdog_code(registers.control), timer)
+        & valid_channels(standby(registers.control), channels)
 }

@@ -1,11 +1,9 @@
 // The call read.
 ghost use mathlib.Core.Path.{_≡_};
-ghost use mathlib.Core.Bool.{true};
 ghost use Prim.Native.Nat.{_<_};
-ghost use Rattle.rules.specs.Map.{statusIndex};
-ghost use Rattle.rules.specs.Valid.{validOf};
-ghost use Rattle.rules.specs.Calls.{accepted, readAnswer};
-ghost use Rattle.rules.specs.Read.{controlByte, boxByte, channelByte, statusByte, afterRead, readOf};
+ghost use Rattle.rules.specs.Map.{isCarried, statusIndex, indexOf};
+ghost use Rattle.rules.specs.Calls.{readAnswer};
+ghost use Rattle.rules.specs.Read.{controlByte, boxByte, channelByte, statusByte, placeByte, afterRead, readOf};
 use device::duty::conditions;
 use device::duty::fault_byte;
 use device::duty::output_duty;
@@ -93,21 +91,35 @@ fn after_read(state: State, address: u32) -> State
     accessed(state)
 }
 
-fn refused(refusal: u8, state: State) -> ReadAnswer
-    ensures { λ r. ⌜ r ≡ readAnswer refusal 0 state ⌝ }
+fn is_carried(place: Place) -> bool
+    ensures { λ r. ⌜ r ≡ isCarried place ⌝ }
 {
-    ReadAnswer {
-        refusal: refusal,
-        byte: 0,
-        state: state,
+    match place {
+        Place::Absent => false,
+        Place::ReadOnly(_) => true,
+        Place::Shared(_) => true,
+        Place::Own(_, _) => true,
     }
 }
 
-fn answered(byte: u8, state: State) -> ReadAnswer
-    ensures { λ r. ⌜ r ≡ readAnswer accepted byte state ⌝ }
+// The byte that a place reads.
+fn place_byte(state: State, place: Place) -> u8
+    requires { ⌜ indexOf place < 6 ⌝ }
+    ensures { λ r. ⌜ r ≡ placeByte state place ⌝ }
+{
+    match place {
+        Place::Absent => 0,
+        Place::ReadOnly(register) => status_byte(state, register),
+        Place::Shared(register) => box_byte(state, register),
+        Place::Own(register, i) => channel_byte(state.channels[i], register),
+    }
+}
+
+fn read_answer(refusal: u8, byte: u8, state: State) -> ReadAnswer
+    ensures { λ r. ⌜ r ≡ readAnswer refusal byte state ⌝ }
 {
     ReadAnswer {
-        refusal: ACCEPTED,
+        refusal: refusal,
         byte: byte,
         state: state,
     }
@@ -115,18 +127,18 @@ fn answered(byte: u8, state: State) -> ReadAnswer
 
 // The byte at an address, from the state before the read.
 pub fn read(state: State, address: u32) -> ReadAnswer
-    ensures equal { λ r. ⌜ r ≡ readOf state address ⌝ }
-    ensures kept { λ r. ⌜ (validOf state ≡ true → validOf (r .state) ≡ true) ⌝ }
+    ensures { λ r. ⌜ r ≡ readOf state address ⌝ }
 {
     if !valid(state) {
-        return refused(STATE_NOT_VALID, state);
+        return read_answer(STATE_NOT_VALID, 0, state);
     }
-    let after = after_read(state, address);
     let place = place_at(address);
-    match place {
-        Place::Absent => refused(NOT_CARRIED, state),
-        Place::ReadOnly(register) => answered(status_byte(state, register), after),
-        Place::Shared(register) => answered(box_byte(state, register), after),
-        Place::Own(register, i) => answered(channel_byte(state.channels[i], register), after),
+    if !is_carried(place) {
+        return read_answer(NOT_CARRIED, 0, state);
     }
+    read_answer(
+        ACCEPTED,
+        place_byte(state, place),
+        after_read(state, address),
+    )
 }

@@ -1,22 +1,4 @@
--- Theorems about the definitions of specs/.
+-- What ties the definitions to the paper: words convert without loss, and the map carries the listed registers.
 pub mod Tests
 pub mod Words
 pub mod Map
-pub mod Each
-pub mod Faults
-pub mod Valid
-pub mod Kept
-pub mod Results
-pub mod Queue
-pub mod FanFail
-pub mod Promises
-pub mod Duty
-pub mod Exact
-pub mod Revolutions
-pub mod Iterate
-pub mod Ramp
-pub mod ChannelTicks
-pub mod TickValid
-pub mod StateTicks
-pub mod Elapsed
-pub mod Trials

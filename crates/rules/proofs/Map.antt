@@ -1,15 +1,15 @@
 -- The map carries just the paper's 85 registers, just its read-only ones are read-only, and a channel's index is below 6.
 use Prim.Native.Nat.{ℕ, zero, suc, _+_, _<_, _≤_}
-use mathlib.Core.Path.{_≡_, refl, sym, _∙_, ap, subst}
+use mathlib.Core.Path.{_≡_, refl, sym, _∙_, ap}
 use mathlib.Core.Bool.{Bool, true, false, _&&_, Bool·beq, and-false}
 use mathlib.Core.List.{List, [], _∷_}
 use native.Mathlib.Omega.{arith}
 use native.Mathlib.Decide.{decLt}
 use lib.Dec.{ltb}
 use borrow.Author.Tests.{ltb-true, ltb-false, lt-leb}
-use Rattle.rules.specs.Types.{StatusRegister, ChannelRegister, Place, Absent, ReadOnly, Own}
+use Rattle.rules.specs.Types.{Place, Absent}
 use Rattle.rules.specs.Basics.{if_then_else_, flag, every}
-use Rattle.rules.specs.Map.{settingAt, statusAt, targetAt, placeAt, Row, among, carriedRows, readOnlyRows, isCarried, isReadOnly, statusIndex, indexOf}
+use Rattle.rules.specs.Map.{settingAt, statusAt, targetAt, placeAt, Row, among, carriedRows, readOnlyRows, isCarried, isReadOnly, indexOf}
 use Rattle.rules.proofs.Tests.{choice, and-left, and-right, same, allBelow, all-below}
 
 -- what holds of every rung of the map
@@ -62,11 +62,8 @@ unfolding placeAt
 place-rung a = below a _ _ _ (λ h. setting-rung a) λ _. below a _ _ _ (λ h. status-rung a) λ _. target-rung a
 
 -- the channel that the map names is one of the six
-pub own-below-six : (a i : ℕ) (r : ChannelRegister) → placeAt a ≡ Own r i → i < 6
-own-below-six a i r e = subst (λ (p : Place). indexOf p < 6) e (place-rung a .small)
-
-pub status-below-six : (a : ℕ) (r : StatusRegister) → placeAt a ≡ ReadOnly r → statusIndex r < 6
-status-below-six a r e = subst (λ (p : Place). indexOf p < 6) e (place-rung a .small)
+pub place-below-six : (a : ℕ) → indexOf (placeAt a) < 6
+place-below-six a = place-rung a .small
 
 -- ---- the paper's lists
 

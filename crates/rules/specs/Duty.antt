@@ -17,9 +17,9 @@ unfoldable pub conditionsOf : State → Conditions
 conditionsOf s =
     record {
       pin = s .pin;
-      standby = standby (s .registers);
+      standby = standby (s .registers .control);
       expired = s .timer .expired;
-      option = failedFanOption (s .registers);
+      option = failedFanOption (s .registers .options);
       faulty = some (λ ch. ch .fault) (s .channels);
     }
 
@@ -33,14 +33,17 @@ failedFan option fault faulty =
     else None
 
 -- "monitor only, 0; FULL_SPEED low, 511; standby, 0; watchdog expired, 511; failed-fan option": the lines "called
--- overrides"
-unfoldable pub overrideOf : Conditions → Channel → Override
-overrideOf k ch =
-    if monitorOnly ch then Duty 0
+-- overrides", of a channel that is monitor only or not and has its fault bit set or not
+unfoldable pub overrideBy : Conditions → Bool → Bool → Override
+overrideBy k monitor fault =
+    if monitor then Duty 0
     else if not (k .pin) then Duty 511
     else if k .standby then Duty 0
     else if k .expired then Duty 511
-    else failedFan (k .option) (ch .fault) (k .faulty)
+    else failedFan (k .option) fault (k .faulty)
+
+abbrev pub overrideOf : Conditions → Channel → Override
+overrideOf k ch = overrideBy k (monitorOnly (ch .config)) (ch .fault)
 
 -- "spin-up running, 511; otherwise the ramp value"
 abbrev pub ownDuty : Channel → ℕ

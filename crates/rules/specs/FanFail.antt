@@ -11,7 +11,7 @@ use Rattle.rules.specs.Calls.{accepted, stateNotValid}
 
 -- of each channel, from 1 to 6, whether it "has its fault bit set and its mask bit clear"
 abbrev pub failed : State → List Bool
-failed s = map (λ i. channel s i .fault && not (masked (s .registers) i)) (0 ∷ 1 ∷ 2 ∷ 3 ∷ 4 ∷ 5 ∷ [])
+failed s = map (λ i. channel s i .fault && not (masked (s .registers .mask1) i)) (0 ∷ 1 ∷ 2 ∷ 3 ∷ 4 ∷ 5 ∷ [])
 
 -- "how many unmasked channels have failed"
 abbrev pub howMany : List Bool → ℕ

@@ -13,11 +13,9 @@ pub mod Start
 pub mod Write
 pub mod Read
 pub mod Tick
-pub mod Elapsed
 pub mod Tachometer
 pub mod FanFail
 pub mod Speed
 pub mod Reading
 pub mod Pin
 pub mod Make
-pub mod Trials

@@ -1,10 +1,11 @@
 -- A call as a value: one of those that are handed a state is made, or a list of them one after the other.
+use Prim.Native.Nat.{ℕ}
 use mathlib.Core.Path.{_≡_}
 use mathlib.Core.Bool.{true}
-use mathlib.Core.List.{List, [], _∷_}
+use mathlib.Core.List.{List, [], _∷_, map}
 use Rattle.rules.specs.Types.{State, Answer, ReadAnswer, Call, Write, Read, Ticks, Tachometer, Pin}
-use Rattle.rules.specs.Valid.{validOf}
-use Rattle.rules.specs.Calls.{accepted, readAnswer}
+use Rattle.rules.specs.Valid.{validOf, ifValid}
+use Rattle.rules.specs.Calls.{accepted, answer, readAnswer}
 use Rattle.rules.specs.Write.{writeOf}
 use Rattle.rules.specs.Read.{readOf}
 use Rattle.rules.specs.Tick.{ticksPassed}
@@ -32,6 +33,11 @@ madeEach s (call ∷ calls) = made s call ∷ madeEach (made s call .state) call
 unfoldable pub afterEach : State → List Call → State
 afterEach s [] = s
 afterEach s (call ∷ calls) = afterEach (made s call .state) calls
+
+-- a quiet span: a list of calls that pass ticks, given by the ticks of each. What one call answers that makes them all: the state
+-- that the last one leaves, and 1 where the first is refused
+unfoldable pub eachPassed : State → List ℕ → Answer
+eachPassed s elapsed = ifValid s (answer accepted (afterEach s (map Ticks elapsed)))
 
 -- demand 1: "a refused call that was handed a state gives the same state back"; "All given-back states after sound ones are sound"
 pub record Keeps (s : State) (call : Call) : Type 0 where

@@ -7,7 +7,7 @@ use Rattle.rules.specs.Basics.{if_then_else_, keep, flag}
 use Rattle.rules.specs.State.{channel, withTimer}
 use Rattle.rules.specs.Registers.{targetCount}
 use Rattle.rules.specs.Words.{dutyWord, countWord, outputWord, wordByte}
-use Rattle.rules.specs.Map.{placeAt}
+use Rattle.rules.specs.Map.{placeAt, isCarried}
 use Rattle.rules.specs.Duty.{faultByte, conditionsOf, outputDuty}
 use Rattle.rules.specs.Valid.{validOf}
 use Rattle.rules.specs.Calls.{accepted, stateNotValid, notCarried, readAnswer, accessed}
@@ -40,6 +40,13 @@ statusByte s (Count i low) = wordByte low (countWord (channel s i .count))
 statusByte s (OtherCount low) = wordByte low 0xFFE0
 statusByte s (Output i low) = wordByte low (outputWord (outputDuty (conditionsOf s) (channel s i)))
 
+-- the byte that a place reads; where nothing stands, 0
+unfoldable pub placeByte : State → Place → ℕ
+placeByte s Absent = 0
+placeByte s (ReadOnly r) = statusByte s r
+placeByte s (Shared r) = boxByte s r
+placeByte s (Own r i) = channelByte (channel s i) r
+
 -- "A read of 00h then clears the status bit"
 abbrev pub statusCleared : State → State
 statusCleared s =
@@ -51,10 +58,9 @@ afterRead s a = accessed (if eqb a 0x00 then statusCleared s else s)
 
 -- refusal 2, or the byte "from the state before it". "After a refused read the byte is 0"
 unfoldable pub readAt : State → ℕ → Place → ReadAnswer
-readAt s a Absent = readAnswer notCarried 0 s
-readAt s a (ReadOnly r) = readAnswer accepted (statusByte s r) (afterRead s a)
-readAt s a (Shared r) = readAnswer accepted (boxByte s r) (afterRead s a)
-readAt s a (Own r i) = readAnswer accepted (channelByte (channel s i) r) (afterRead s a)
+readAt s a place =
+    if isCarried place then readAnswer accepted (placeByte s place) (afterRead s a)
+    else readAnswer notCarried 0 s
 
 -- refusal 1 comes before it
 unfoldable pub readOf : State → ℕ → ReadAnswer

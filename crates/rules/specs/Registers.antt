@@ -1,45 +1,48 @@
 -- "The carried registers": the fields of each register, and which of its bits are kept.
 use Prim.Native.Nat.{ℕ, _+_}
 use mathlib.Core.Bool.{Bool, _||_}
-use Rattle.rules.specs.Types.{Channel, Registers}
+use Rattle.rules.specs.Types.{Channel}
 use Rattle.rules.specs.Basics.{bit, bits, keep}
 
--- ---- the fields
+-- ---- the fields, each of the byte that its register reads
 
 -- 00h: bit 7 standby, 2:1 watchdog code
-abbrev pub standby : Registers → Bool
-standby r = bit 7 (r .control)
+abbrev pub standby : ℕ → Bool
+standby control = bit 7 control
 
-abbrev pub watchdogCode : Registers → ℕ
-watchdogCode r = bits 2 1 (r .control)
+abbrev pub watchdogCode : ℕ → ℕ
+watchdogCode control = bits 2 1 control
 
 -- 02h to 07h: 6:5 spin-up code, 4 monitor only, 3 tachometer enabled
-abbrev pub spinCode : Channel → ℕ
-spinCode ch = bits 6 5 (ch .config)
+abbrev pub spinCode : ℕ → ℕ
+spinCode config = bits 6 5 config
 
-abbrev pub monitorOnly : Channel → Bool
-monitorOnly ch = bit 4 (ch .config)
+abbrev pub monitorOnly : ℕ → Bool
+monitorOnly config = bit 4 config
 
-abbrev pub tachometerEnabled : Channel → Bool
-tachometerEnabled ch = bit 3 (ch .config)
+abbrev pub tachometerEnabled : ℕ → Bool
+tachometerEnabled config = bit 3 config
 
--- 08h to 0Dh: 4:2 rate code, 1 asymmetric fall
-abbrev pub rateCode : Channel → ℕ
-rateCode ch = bits 4 2 (ch .dynamics)
+-- 08h to 0Dh: 7:5 speed range, 4:2 rate code, 1 asymmetric fall
+abbrev pub rangeCode : ℕ → ℕ
+rangeCode dynamics = bits 7 5 dynamics
 
-abbrev pub asymmetric : Channel → Bool
-asymmetric ch = bit 1 (ch .dynamics)
+abbrev pub rateCode : ℕ → ℕ
+rateCode dynamics = bits 4 2 dynamics
+
+abbrev pub asymmetric : ℕ → Bool
+asymmetric dynamics = bit 1 dynamics
 
 -- 13h: "bit 0 for channel 1 to bit 5 for channel 6"
-abbrev pub masked : Registers → ℕ → Bool
-masked r i = bit i (r .mask1)
+abbrev pub masked : ℕ → ℕ → Bool
+masked mask i = bit i mask
 
 -- 14h: 3:2 failed-fan option, 1:0 queue code
-abbrev pub failedFanOption : Registers → ℕ
-failedFanOption r = bits 3 2 (r .options)
+abbrev pub failedFanOption : ℕ → ℕ
+failedFanOption options = bits 3 2 options
 
-abbrev pub queueCode : Registers → ℕ
-queueCode r = bits 1 0 (r .options)
+abbrev pub queueCode : ℕ → ℕ
+queueCode options = bits 1 0 options
 
 -- 50h to 5Bh: target count
 abbrev pub targetCount : Channel → ℕ

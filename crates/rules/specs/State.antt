@@ -3,7 +3,7 @@ use Prim.Native.Nat.{ℕ}
 use mathlib.Core.Bool.{Bool, false}
 use mathlib.Core.List.{List}
 use lib.ListN.{getD}
-use Rattle.rules.specs.Types.{Channel, Registers, Timer, State}
+use Rattle.rules.specs.Types.{Channel, Results, Registers, Timer, State}
 
 -- a channel with every number 0 and every flag clear
 abbrev pub blank : Channel
@@ -25,6 +25,13 @@ blank =
 abbrev pub channel : State → ℕ → Channel
 channel s i = getD (s .channels) i blank
 
+-- what a tachometer result changes of a channel
+abbrev pub results : ℕ → ℕ → Bool → Results
+results count queue fault = record { count = count; queue = queue; fault = fault }
+
+abbrev pub resultsOf : Channel → Results
+resultsOf ch = results (ch .count) (ch .queue) (ch .fault)
+
 -- a channel with other settings; with other results; with another ramp value and spin-up time
 abbrev pub withSettings : Channel → ℕ → ℕ → ℕ → ℕ → ℕ → Channel
 withSettings ch config dynamics window target target-count =
@@ -41,17 +48,17 @@ withSettings ch config dynamics window target target-count =
       spin = ch .spin;
     }
 
-abbrev pub withResults : Channel → ℕ → ℕ → Bool → Channel
-withResults ch count queue fault =
+abbrev pub withResults : Channel → Results → Channel
+withResults ch r =
     record {
       config = ch .config;
       dynamics = ch .dynamics;
       window = ch .window;
       target = ch .target;
       «target_count» = ch .«target_count»;
-      count = count;
-      queue = queue;
-      fault = fault;
+      count = r .count;
+      queue = r .queue;
+      fault = r .fault;
       ramp = ch .ramp;
       spin = ch .spin;
     }

@@ -1,7 +1,7 @@
 -- "One tick", and the call that passes ticks.
 use Prim.Native.Nat.{ℕ, zero, suc, _+_, _-_, _%_}
 use mathlib.Core.Bool.{Bool, true, false, _&&_, _||_}
-use mathlib.Core.List.{map}
+use mathlib.Core.List.{List, map}
 use lib.Dec.{leb, ltb, eqb}
 use Rattle.rules.specs.Types.{Channel, Timer, State, Conditions, Override, None, Duty, Answer}
 use Rattle.rules.specs.Basics.{if_then_else_}
@@ -9,20 +9,20 @@ use Rattle.rules.specs.State.{withMotion, withChannels, withTimer}
 use Rattle.rules.specs.Registers.{spinCode, rateCode, asymmetric, watchdogCode}
 use Rattle.rules.specs.Time.{clockAfter, watchdogLimit, spinTicks, ratePeriod}
 use Rattle.rules.specs.Duty.{conditionsOf, overrideOf}
-use Rattle.rules.specs.Valid.{validOf}
-use Rattle.rules.specs.Calls.{accepted, stateNotValid, answer}
+use Rattle.rules.specs.Valid.{ifValid}
+use Rattle.rules.specs.Calls.{accepted, answer}
 
--- the duty that a channel's ramp value moves to
-abbrev pub wanted : Channel → ℕ
+-- the duty that a channel's ramp value moves to: its target duty
+unfoldable pub wanted : Channel → ℕ
 wanted ch = ch .target
 
 -- the period in the direction of the target
 abbrev pub periodOf : Channel → ℕ
-periodOf ch = ratePeriod (rateCode ch) (asymmetric ch && ltb (wanted ch) (ch .ramp))
+periodOf ch = ratePeriod (rateCode (ch .dynamics)) (asymmetric (ch .dynamics) && ltb (wanted ch) (ch .ramp))
 
 -- "Spin-up is due at ramp value 0 with the target above 0 and the spin-up code not 0"
 unfoldable pub spinUpDue : Channel → Bool
-spinUpDue ch = eqb (ch .ramp) 0 && ltb 0 (wanted ch) && ltb 0 (spinCode ch)
+spinUpDue ch = eqb (ch .ramp) 0 && ltb 0 (wanted ch) && ltb 0 (spinCode (ch .config))
 
 -- "An override is in force when its line decides the duty"
 abbrev pub inForce : Override → Bool
@@ -32,11 +32,15 @@ inForce (Duty duty) = true
 abbrev pub overridden : Conditions → Channel → Bool
 overridden k ch = inForce (overrideOf k ch)
 
--- "1. The clock advances by one, wrapping. 2. If the watchdog code is not 0 and it has not expired, its idle count goes up by
--- one; at the code's limit it expires and the status bit is set"
 abbrev pub timer : ℕ → ℕ → Bool → Bool → Timer
 timer clock idle expired status = record { clock = clock; idle = idle; expired = expired; status = status }
 
+-- the idle count at which the watchdog expires, 0 where it is off
+abbrev pub idleLimit : State → ℕ
+idleLimit s = watchdogLimit (watchdogCode (s .registers .control))
+
+-- "1. The clock advances by one, wrapping. 2. If the watchdog code is not 0 and it has not expired, its idle count goes up by
+-- one; at the code's limit it expires and the status bit is set"
 unfoldable pub timerTick : ℕ → Timer → Timer
 timerTick code t =
     let clock = clockAfter (t .clock) 1 in
@@ -58,17 +62,20 @@ unfoldable pub channelTick : Bool → ℕ → Channel → Channel
 channelTick held clock ch =
     if held then ch
     else if ltb 0 (ch .spin) then withMotion ch (ch .ramp) (ch .spin - 1)
-    else if spinUpDue ch then withMotion ch 511 (spinTicks (spinCode ch))
-    else if eqb (rateCode ch) 0 then withMotion ch (wanted ch) (ch .spin)
+    else if spinUpDue ch then withMotion ch 511 (spinTicks (spinCode (ch .config)))
+    else if eqb (rateCode (ch .dynamics)) 0 then withMotion ch (wanted ch) (ch .spin)
     else if eqb (clock % periodOf ch) 0 then withMotion ch (toward (ch .ramp) (wanted ch)) (ch .spin)
     else ch
+
+-- all of them
+unfoldable pub channelsTick : Conditions → ℕ → List Channel → List Channel
+channelsTick k clock chs = map (λ ch. channelTick (overridden k ch) clock ch) chs
 
 -- one tick: the overrides are those after step 2
 unfoldable pub tick : State → State
 tick s =
-    let next = withTimer s (timerTick (watchdogCode (s .registers)) (s .timer)) in
-    let k = conditionsOf next in
-    withChannels next (map (λ ch. channelTick (overridden k ch) (next .timer .clock) ch) (s .channels))
+    let next = withTimer s (timerTick (watchdogCode (s .registers .control)) (s .timer)) in
+    withChannels next (channelsTick (conditionsOf next) (next .timer .clock) (s .channels))
 
 -- a rule applied n times
 unfoldable pub iterate : {A : Type 0} → ℕ → (A → A) → A → A
@@ -77,4 +84,4 @@ iterate (suc n) rule a = iterate n rule (rule a)
 
 -- the call; the paper calls it a jump
 unfoldable pub ticksPassed : State → ℕ → Answer
-ticksPassed s n = if validOf s then answer accepted (iterate n tick s) else answer stateNotValid s
+ticksPassed s n = ifValid s (answer accepted (iterate n tick s))

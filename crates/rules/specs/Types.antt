@@ -1,5 +1,6 @@
 -- The types of src/, under short names.
 pub use Rattle.rules.specs.declared.Channel.{Channel}
+pub use Rattle.rules.specs.declared.Results.{Results}
 pub use Rattle.rules.specs.declared.Registers.{Registers}
 pub use Rattle.rules.specs.declared.StartValues.{StartValues}
 pub use Rattle.rules.specs.declared.Timer.{Timer}

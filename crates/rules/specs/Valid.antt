@@ -1,11 +1,13 @@
--- A valid state, which the paper calls sound.
+-- A valid state, which the paper calls sound. What the types hold by themselves is not tested: that there are six channels, that
+-- configuration, window and frequency are bytes, that the clock has 32 bits.
 use Prim.Native.Nat.{ℕ}
 use mathlib.Core.Bool.{Bool, not, _&&_, _||_}
 use lib.Dec.{leb, ltb, eqb}
-use Rattle.rules.specs.Types.{Channel, Registers, StartValues, Timer, State}
+use Rattle.rules.specs.Types.{Channel, Registers, StartValues, Timer, State, Answer}
 use Rattle.rules.specs.Basics.{if_then_else_, _implies_, every}
 use Rattle.rules.specs.Registers.{standby, watchdogCode, monitorOnly, targetCount, controlKept, dynamicsKept, maskKept, optionsKept, configRefused}
 use Rattle.rules.specs.Time.{watchdogLimit}
+use Rattle.rules.specs.Calls.{stateNotValid, answer}
 
 -- "each field is in range, unkept bits are 0, refusal 4's bits are clear": a channel's settings, and its results
 abbrev pub validSettings : Channel → Bool
@@ -20,14 +22,14 @@ validResults ch = ltb (ch .count) 2048 && leb (ch .queue) 6
 
 -- "a channel in monitor or a box in standby has ramp value and spin-up time 0, a running spin-up has ramp value 511"
 abbrev pub validMotion : Bool → Channel → Bool
-validMotion atRest ch =
+validMotion still ch =
     ltb (ch .ramp) 512
     && leb (ch .spin) 1024
-    && (atRest implies (eqb (ch .ramp) 0 && eqb (ch .spin) 0))
+    && (still implies (eqb (ch .ramp) 0 && eqb (ch .spin) 0))
     && (ltb 0 (ch .spin) implies eqb (ch .ramp) 511)
 
 unfoldable pub validChannel : Bool → Channel → Bool
-validChannel inStandby ch = validSettings ch && validResults ch && validMotion (inStandby || monitorOnly ch) ch
+validChannel inStandby ch = validSettings ch && validResults ch && validMotion (inStandby || monitorOnly (ch .config)) ch
 
 -- "unkept bits are 0", of the registers of the box
 unfoldable pub validRegisters : Registers → Bool
@@ -52,5 +54,9 @@ unfoldable pub validOf : State → Bool
 validOf s =
     validRegisters (s .registers)
     && validStart (s .start)
-    && validTimer (watchdogCode (s .registers)) (s .timer)
-    && every (validChannel (standby (s .registers))) (s .channels)
+    && validTimer (watchdogCode (s .registers .control)) (s .timer)
+    && every (validChannel (standby (s .registers .control))) (s .channels)
+
+-- refusal 1 comes before all others: "state not sound", "state as given"
+abbrev pub ifValid : State → Answer → Answer
+ifValid s given = if validOf s then given else answer stateNotValid s

@@ -1,17 +1,18 @@
 -- The call write.
 use Prim.Native.Nat.{ℕ}
-use mathlib.Core.Bool.{Bool, false}
+use mathlib.Core.Bool.{false}
 use mathlib.Core.List.{map}
+use lib.Dec.{eqb}
 use lib.ListN.{set}
 use Rattle.rules.specs.Types.{Channel, Registers, State, BoxRegister, Control, Frequency, Mask2, Mask1, Options, ChannelRegister, Config, Dynamics, Target, TargetCount, Window, Place, Absent, ReadOnly, Shared, Own, Answer}
 use Rattle.rules.specs.Basics.{if_then_else_, bit}
-use Rattle.rules.specs.State.{channel, registers, withSettings, withResults, withMotion, withChannels, withRegisters}
+use Rattle.rules.specs.State.{channel, registers, results, withSettings, withResults, withMotion, withChannels, withRegisters}
 use Rattle.rules.specs.Registers.{targetCount, controlKept, dynamicsKept, maskKept, optionsKept, configRefused}
 use Rattle.rules.specs.Words.{dutyWord, wordDuty, countWord, wordCount, withByte}
 use Rattle.rules.specs.Map.{placeAt}
-use Rattle.rules.specs.Valid.{validOf}
+use Rattle.rules.specs.Valid.{ifValid}
 use Rattle.rules.specs.Start.{asAtStart}
-use Rattle.rules.specs.Calls.{accepted, stateNotValid, notCarried, readOnly, configNotAllowed, answer, accessed}
+use Rattle.rules.specs.Calls.{accepted, notCarried, readOnly, configNotAllowed, answer, accessed}
 
 -- ---- a channel's register
 
@@ -20,7 +21,7 @@ abbrev pub stopped : Channel → Channel
 stopped ch = withMotion ch 0 0
 
 abbrev pub cleared : Channel → Channel
-cleared ch = withResults ch (ch .count) 0 false
+cleared ch = withResults ch (results (ch .count) 0 false)
 
 -- "To a fan configuration with bit 4: that channel's ramp value and spin-up time become 0. To either byte of a target
 -- duty: that channel's fault bit and queue count become 0." "Each byte of a two-byte target takes effect when it is written"
@@ -36,14 +37,6 @@ channelWritten ch b (TargetCount low) =
     let target-count = wordCount (withByte low (countWord (targetCount ch)) b) in
     withSettings ch (ch .config) (ch .dynamics) (ch .window) (ch .target) target-count
 channelWritten ch b Window = withSettings ch (ch .config) (ch .dynamics) b (ch .target) (targetCount ch)
-
--- refusal 4 speaks of a fan configuration alone
-abbrev pub byteRefused : ChannelRegister → ℕ → Bool
-byteRefused Config b = configRefused b
-byteRefused Dynamics b = false
-byteRefused (Target low) b = false
-byteRefused (TargetCount low) b = false
-byteRefused Window b = false
 
 -- ---- a register of the box
 
@@ -77,15 +70,32 @@ boxWritten s b Options = withRegisters s (stored (s .registers) b Options)
 abbrev pub ownWritten : State → ℕ → ChannelRegister → ℕ → State
 ownWritten s b r i = withChannels s (set (s .channels) i (channelWritten (channel s i) b r))
 
--- refusals 2, 3 and 4, by what stands at the address
-unfoldable pub writeAt : State → ℕ → Place → Answer
-writeAt s b Absent = answer notCarried s
-writeAt s b (ReadOnly r) = answer readOnly s
-writeAt s b (Shared r) = answer accepted (boxWritten (accessed s) b r)
-writeAt s b (Own r i) =
-    if byteRefused r b then answer configNotAllowed s
-    else answer accepted (ownWritten (accessed s) b r i)
+-- the byte goes to what stands at an address
+unfoldable pub written : State → ℕ → Place → State
+written s b Absent = s
+written s b (ReadOnly r) = s
+written s b (Shared r) = boxWritten s b r
+written s b (Own r i) = ownWritten s b r i
 
--- refusal 1 comes before them
+-- refusal 4 speaks of a fan configuration alone
+abbrev pub byteRefusal : ChannelRegister → ℕ → ℕ
+byteRefusal Config b = if configRefused b then configNotAllowed else accepted
+byteRefusal Dynamics b = accepted
+byteRefusal (Target low) b = accepted
+byteRefusal (TargetCount low) b = accepted
+byteRefusal Window b = accepted
+
+-- refusals 2, 3 and 4, by what stands at the address
+unfoldable pub writeRefusal : Place → ℕ → ℕ
+writeRefusal Absent b = notCarried
+writeRefusal (ReadOnly r) b = readOnly
+writeRefusal (Shared r) b = accepted
+writeRefusal (Own r i) b = byteRefusal r b
+
+unfoldable pub writeAt : State → ℕ → Place → Answer
+writeAt s b place =
+    if eqb (writeRefusal place b) accepted then answer accepted (written (accessed s) b place)
+    else answer (writeRefusal place b) s
+
 unfoldable pub writeOf : State → ℕ → ℕ → Answer
-writeOf s a b = if validOf s then writeAt s b (placeAt a) else answer stateNotValid s
+writeOf s a b = ifValid s (writeAt s b (placeAt a))

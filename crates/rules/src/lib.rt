@@ -18,6 +18,13 @@ pub struct Channel {
     pub spin: u16,
 }
 
+// What a tachometer result changes of a channel.
+pub struct Results {
+    pub count: u16,
+    pub queue: u8,
+    pub fault: bool,
+}
+
 // The registers of the whole box that can be written. 00h is kept without its status bit.
 pub struct Registers {
     pub control: u8,

@@ -1,33 +1,24 @@
 // The call that takes a tachometer result.
 ghost use mathlib.Core.Path.{_≡_};
-ghost use mathlib.Core.Bool.{true};
 ghost use Prim.Native.Nat.{_+_, _<_, min};
-ghost use Rattle.rules.specs.State.{withResults};
-ghost use Rattle.rules.specs.Registers.{queueCode};
-ghost use Rattle.rules.specs.Valid.{validOf};
-ghost use Rattle.rules.specs.Tachometer.{queueLength, storedCount, judged, isBad, badResult, resultTaken, withResult, isChannel, resultOf};
+ghost use Rattle.rules.specs.State.{resultsOf, withResults};
+ghost use Rattle.rules.specs.Tachometer.{storedCount, judged, isBad, badResult, resultTaken, channelResult, withResult, isChannel, resultOf};
 use device::answer::answered;
+use device::codes::queue_length;
 use device::duty::conditions;
 use device::duty::output_duty;
 use device::valid::valid;
+use registers::fields::monitor_only;
+use registers::fields::queue_code;
+use registers::fields::tachometer_enabled;
 use rules::ACCEPTED;
 use rules::Answer;
 use rules::Channel;
 use rules::Conditions;
 use rules::NO_SUCH_CHANNEL;
-use rules::Registers;
+use rules::Results;
 use rules::STATE_NOT_VALID;
 use rules::State;
-
-const QUEUE_LENGTHS: [u8; 4] = [1, 2, 4, 6];
-
-// How many bad results in a row make a fault.
-fn queue_length(registers: Registers) -> u8
-    ensures { λ r. ⌜ r ≡ queueLength (queueCode registers) ⌝ }
-{
-    let code = registers.options % 4;
-    QUEUE_LENGTHS[code as usize]
-}
 
 fn stored_count(count: u32) -> u16
     ensures { λ r. ⌜ r ≡ storedCount count ⌝ }
@@ -42,25 +33,14 @@ fn stored_count(count: u32) -> u16
 fn judged(conditions: Conditions, channel: Channel) -> bool
     ensures { λ r. ⌜ r ≡ judged conditions channel ⌝ }
 {
-    let monitor_only = channel.config / 16 % 2 == 1;
     let duty = output_duty(conditions, channel);
-    !conditions.standby & (channel.spin == 0) & (monitor_only | (0 < duty))
+    !conditions.standby & (channel.spin == 0) & (monitor_only(channel.config) | (0 < duty))
 }
 
 fn is_bad(channel: Channel, stored: u16) -> bool
     ensures { λ r. ⌜ r ≡ isBad channel stored ⌝ }
 {
     channel.target_count < stored
-}
-
-fn with_results(channel: Channel, count: u16, queue: u8, fault: bool) -> Channel
-    ensures { λ r. ⌜ r ≡ withResults channel count queue fault ⌝ }
-{
-    let mut next = channel;
-    next.count = count;
-    next.queue = queue;
-    next.fault = fault;
-    next
 }
 
 // The queue count after one more bad result.
@@ -73,38 +53,89 @@ fn one_more(queue: u8) -> u8
     6
 }
 
-fn bad_result(length: u8, stored: u16, channel: Channel) -> Channel
-    ensures { λ r. ⌜ r ≡ badResult length stored channel ⌝ }
+fn bad_result(needed: u8, stored: u16, before: Results) -> Results
+    ensures { λ r. ⌜ r ≡ badResult needed stored before ⌝ }
 {
-    let queue = one_more(channel.queue);
-    with_results(channel, stored, queue, channel.fault | (length <= queue))
+    let queue = one_more(before.queue);
+    Results {
+        count: stored,
+        queue: queue,
+        fault: before.fault | (needed <= queue),
+    }
 }
 
-fn result_taken(conditions: Conditions, length: u8, channel: Channel, count: u32) -> Channel
-    ensures { λ r. ⌜ r ≡ resultTaken conditions length channel count ⌝ }
+// What a result makes of those before it: of a tachometer that is enabled or not, judged or not, bad or not, where so many
+// bad ones in a row make a fault.
+pub fn result_taken(
+    enabled: bool,
+    is_judged: bool,
+    bad: bool,
+    needed: u8,
+    stored: u16,
+    before: Results,
+) -> Results
+    ensures { λ r. ⌜ r ≡ resultTaken enabled «is_judged» bad needed stored before ⌝ }
 {
-    let enabled = channel.config / 8 % 2 == 1;
     if !enabled {
-        return channel;
+        return before;
     }
+    if !is_judged {
+        return Results {
+            count: stored,
+            queue: before.queue,
+            fault: before.fault,
+        };
+    }
+    if bad {
+        return bad_result(needed, stored, before);
+    }
+    Results {
+        count: stored,
+        queue: 0,
+        fault: before.fault,
+    }
+}
+
+fn with_results(channel: Channel, results: Results) -> Channel
+    ensures { λ r. ⌜ r ≡ withResults channel results ⌝ }
+{
+    let mut next = channel;
+    next.count = results.count;
+    next.queue = results.queue;
+    next.fault = results.fault;
+    next
+}
+
+fn results_of(channel: Channel) -> Results
+    ensures { λ r. ⌜ r ≡ resultsOf channel ⌝ }
+{
+    Results {
+        count: channel.count,
+        queue: channel.queue,
+        fault: channel.fault,
+    }
+}
+
+fn channel_result(conditions: Conditions, needed: u8, channel: Channel, count: u32) -> Channel
+    ensures { λ r. ⌜ r ≡ channelResult conditions needed channel count ⌝ }
+{
     let stored = stored_count(count);
-    if !judged(conditions, channel) {
-        return with_results(channel, stored, channel.queue, channel.fault);
-    }
-    if is_bad(channel, stored) {
-        return bad_result(length, stored, channel);
-    }
-    with_results(channel, stored, 0, channel.fault)
+    let enabled = tachometer_enabled(channel.config);
+    let is_judged = judged(conditions, channel);
+    let bad = is_bad(channel, stored);
+    with_results(
+        channel,
+        result_taken(enabled, is_judged, bad, needed, stored, results_of(channel)),
+    )
 }
 
 fn with_result(state: State, i: usize, count: u32) -> State
     requires { ⌜ i < 6 ⌝ }
     ensures { λ r. ⌜ r ≡ withResult state i count ⌝ }
 {
-    let registers = state.registers;
-    let length = queue_length(registers);
+    let needed = queue_length(queue_code(state.registers.options));
     let mut next = state;
-    next.channels[i] = result_taken(conditions(state), length, state.channels[i], count);
+    next.channels[i] = channel_result(conditions(state), needed, state.channels[i], count);
     next
 }
 
@@ -116,8 +147,7 @@ fn is_channel(number: u32) -> bool
 
 // A result of channel 1 to 6: how many clocks of 8,192 Hz were counted.
 pub fn take_result(state: State, channel: u32, count: u32) -> Answer
-    ensures equal { λ r. ⌜ r ≡ resultOf state channel count ⌝ }
-    ensures kept { λ r. ⌜ (validOf state ≡ true → validOf (r .state) ≡ true) ⌝ }
+    ensures { λ r. ⌜ r ≡ resultOf state channel count ⌝ }
 {
     if !valid(state) {
         return answered(STATE_NOT_VALID, state);

@@ -12,7 +12,7 @@ use lib.Ieee.Exact.{HasValue}
 use lib.Ieee.Fits.{down-pos}
 use borrow.Author.Tests.{lt-ltb, le-ltb, le-leb, lt-leb, eq-eqb, ne-eqb}
 use Rattle.rules.specs.Reading.{over512}
-use Rattle.rules.proofs.Exact.{over-512-exact}
+use Rattle.laws.proofs.Exact.{over-512-exact}
 use Rattle.text.specs.Fraction.{partsAfter, partsOf}
 
 -- ---- values of one denominator are in the order of their numerators

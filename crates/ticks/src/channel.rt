@@ -2,40 +2,31 @@
 ghost use mathlib.Core.Path.{_≡_};
 ghost use mathlib.Core.Bool.{false};
 ghost use Prim.Native.Nat.{_<_, _^_};
-ghost use Rattle.rules.specs.Registers.{spinCode};
-ghost use Rattle.rules.specs.Time.{spinTicks};
 ghost use Rattle.rules.specs.Tick.{periodOf, spinUpDue};
-ghost use Rattle.rules.proofs.Ramp.{approach};
-ghost use Rattle.rules.proofs.ChannelTicks.{channelTicks};
+ghost use Rattle.laws.proofs.Ramp.{approach};
+ghost use Rattle.laws.proofs.ChannelTicks.{channelTicks};
+use device::codes::rate_period;
+use device::codes::spin_ticks;
+use device::duty::wanted;
+use registers::fields::asymmetric;
+use registers::fields::rate_code;
+use registers::fields::spin_code;
 use rules::Channel;
-
-const SPIN_TICKS: [u16; 4] = [0, 256, 512, 1024];
-
-fn spin_ticks(channel: Channel) -> u16
-    ensures { λ r. ⌜ r ≡ spinTicks (spinCode channel) ⌝ }
-{
-    let code = channel.config / 32 % 4;
-    SPIN_TICKS[code as usize]
-}
 
 fn spin_up_due(channel: Channel) -> bool
     ensures { λ r. ⌜ r ≡ spinUpDue channel ⌝ }
 {
-    (channel.ramp == 0) & (0 < channel.target) & (0 < channel.config / 32 % 4)
+    (channel.ramp == 0) & (0 < wanted(channel)) & (0 < spin_code(channel.config))
 }
-
-// The periods of rate codes 1 to 7; code 0 has none, and its entry is not used.
-const PERIODS: [u32; 8] = [1, 1, 2, 4, 8, 16, 32, 64];
 
 fn period_of(channel: Channel) -> u32
     ensures { λ r. ⌜ r ≡ periodOf channel ⌝ }
 {
-    let code = channel.dynamics / 4 % 8;
-    let period = PERIODS[code as usize];
-    if (channel.dynamics / 2 % 2 == 1) & (channel.target < channel.ramp) {
-        return 2 * period;
-    }
-    period
+    let falling = wanted(channel) < channel.ramp;
+    rate_period(
+        rate_code(channel.dynamics),
+        asymmetric(channel.dynamics) & falling,
+    )
 }
 
 fn approach(x: u16, goal: u16, steps: u64) -> u16
@@ -60,21 +51,22 @@ fn ramped(channel: Channel, clock: u64, ticks: u32) -> Channel
     ensures { λ r. ⌜ r ≡ channelTicks false ticks clock channel ⌝ }
 {
     let mut next = channel;
-    if channel.dynamics / 4 % 8 == 0 {
+    let goal = wanted(channel);
+    if rate_code(channel.dynamics) == 0 {
         if ticks == 0 {
             return channel;
         }
-        next.ramp = channel.target;
+        next.ramp = goal;
         return next;
     }
     let period = period_of(channel) as u64;
     let steps = (clock + ticks as u64) / period - clock / period;
-    next.ramp = approach(channel.ramp, channel.target, steps);
+    next.ramp = approach(channel.ramp, goal, steps);
     next
 }
 
 // A channel whose spin-up does not run, and may be due: then one tick starts it.
-fn at_rest(channel: Channel, clock: u64, ticks: u32) -> Channel
+fn not_spinning(channel: Channel, clock: u64, ticks: u32) -> Channel
     requires { ⌜ (channel .spin ≡ 0) × (clock < 2 ^ 33) ⌝ }
     ensures { λ r. ⌜ r ≡ channelTicks false ticks clock channel ⌝ }
 {
@@ -82,7 +74,7 @@ fn at_rest(channel: Channel, clock: u64, ticks: u32) -> Channel
         return channel;
     }
     if spin_up_due(channel) {
-        let time = spin_ticks(channel);
+        let time = spin_ticks(spin_code(channel.config));
         let left = ticks - 1;
         let mut next = channel;
         next.ramp = 511;
@@ -109,5 +101,5 @@ pub fn channel_after(held: bool, channel: Channel, clock: u32, ticks: u32) -> Ch
         return next;
     }
     next.spin = 0;
-    at_rest(next, clock as u64 + spin as u64, ticks - spin as u32)
+    not_spinning(next, clock as u64 + spin as u64, ticks - spin as u32)
 }

@@ -1,16 +1,17 @@
 // The passing of ticks. No loop counts ticks: each part of the state is worked out at once, whatever their number.
 ghost use mathlib.Core.Path.{_≡_};
 ghost use mathlib.Core.Bool.{true};
-ghost use Rattle.rules.specs.Calls.{accepted, stateNotValid, answer};
 ghost use Rattle.rules.specs.Valid.{validOf};
-ghost use Rattle.rules.specs.Tick.{tick, iterate, ticksPassed};
-ghost use Rattle.rules.specs.Elapsed.{total, eachPassed};
-ghost use Rattle.rules.proofs.StateTicks.{counting, eachAfter, timed};
+ghost use Rattle.rules.specs.Tick.{idleLimit, tick, iterate, ticksPassed};
+ghost use Rattle.rules.specs.Make.{eachPassed};
+ghost use Rattle.laws.proofs.StateTicks.{counting, eachAfter, timed};
 use crate::channel::channel_after;
+use device::answer::answered;
+use device::codes::watchdog_limit;
 use device::duty::conditions;
 use device::duty::overridden;
 use device::valid::valid;
-use device::valid::watchdog_limit;
+use registers::fields::watchdog_code;
 use rules::ACCEPTED;
 use rules::Answer;
 use rules::Channel;
@@ -18,7 +19,7 @@ use rules::Conditions;
 use rules::STATE_NOT_VALID;
 use rules::State;
 
-pub mod channel;
+mod channel;
 
 fn channels_after(now: Conditions, channels: [Channel; 6], clock: u32, ticks: u32) -> [Channel; 6]
     ensures { λ r. ⌜ r ≡ eachAfter now ticks clock channels ⌝ }
@@ -36,7 +37,14 @@ fn channels_after(now: Conditions, channels: [Channel; 6], clock: u32, ticks: u3
 fn is_counting(state: State) -> bool
     ensures { λ r. ⌜ r ≡ counting state ⌝ }
 {
-    !((state.registers.control / 2 % 4 == 0) | state.timer.expired)
+    !((watchdog_code(state.registers.control) == 0) | state.timer.expired)
+}
+
+// The idle count at which the watchdog expires.
+fn idle_limit(state: State) -> u16
+    ensures { λ r. ⌜ r ≡ idleLimit state ⌝ }
+{
+    watchdog_limit(watchdog_code(state.registers.control))
 }
 
 fn timed(
@@ -68,8 +76,7 @@ fn passed(state: State, ticks: u32) -> State
     let timer = state.timer;
     let clock = std::num::wrapping_add_u32(timer.clock, ticks);
     if is_counting(state) {
-        let registers = state.registers;
-        let limit = watchdog_limit(registers);
+        let limit = idle_limit(state);
         let room = limit - timer.idle - 1;
         if ticks <= room as u32 {
             let next = channels_after(now, channels, timer.clock, ticks);
@@ -89,36 +96,22 @@ fn passed(state: State, ticks: u32) -> State
     timed(state, free, clock, timer.idle, timer.expired, timer.status)
 }
 
-fn refused(state: State) -> Answer
-    ensures { λ r. ⌜ r ≡ answer stateNotValid state ⌝ }
-{
-    Answer {
-        refusal: STATE_NOT_VALID,
-        state: state,
-    }
-}
-
 // So many ticks pass at once: what the paper calls a jump.
 pub fn pass_ticks(state: State, ticks: u32) -> Answer
-    ensures equal { λ r. ⌜ r ≡ ticksPassed state ticks ⌝ }
-    ensures kept { λ r. ⌜ (validOf state ≡ true → validOf (r .state) ≡ true) ⌝ }
+    ensures { λ r. ⌜ r ≡ ticksPassed state ticks ⌝ }
 {
     if !valid(state) {
-        return refused(state);
+        return answered(STATE_NOT_VALID, state);
     }
-    Answer {
-        refusal: ACCEPTED,
-        state: passed(state, ticks),
-    }
+    answered(ACCEPTED, passed(state, ticks))
 }
 
 // Such calls in turn, each given the state that the one before left: what the paper calls a quiet span.
 pub fn pass_each(state: State, elapsed: &[u32]) -> Answer
-    ensures equal { λ r. ⌜ r ≡ eachPassed state (now (elapsed .entry)) ⌝ }
-    ensures counted { λ r. ⌜ (validOf state ≡ true → r ≡ answer accepted (iterate (total (now (elapsed .entry))) tick state)) ⌝ }
+    ensures { λ r. ⌜ r ≡ eachPassed state (now (elapsed .entry)) ⌝ }
 {
     if !valid(state) {
-        return refused(state);
+        return answered(STATE_NOT_VALID, state);
     }
     let mut last = state;
     let mut made = 0;
@@ -127,8 +120,5 @@ pub fn pass_each(state: State, elapsed: &[u32]) -> Answer
         last = next.state;
         made += 1;
     }
-    Answer {
-        refusal: ACCEPTED,
-        state: last,
-    }
+    answered(ACCEPTED, last)
 }

@@ -1,15 +1,17 @@
 // The call write.
 ghost use mathlib.Core.Path.{_≡_};
-ghost use mathlib.Core.Bool.{true};
 ghost use mathlib.Core.List.{map};
 ghost use Prim.Native.Nat.{_<_};
 ghost use Rattle.rules.specs.declared.BoxRegister.the-variants.{Control};
 ghost use Rattle.rules.specs.declared.ChannelRegister.the-variants.{Config};
-ghost use Rattle.rules.specs.Valid.{validOf};
-ghost use Rattle.rules.specs.Write.{stopped, channelWritten, byteRefused, boxWritten, ownWritten, writeOf};
+ghost use Rattle.rules.specs.Map.{indexOf};
+ghost use Rattle.rules.specs.Write.{stopped, channelWritten, boxWritten, ownWritten, written, byteRefusal, writeRefusal, writeOf};
 use device::answer::answered;
+use device::fresh::as_at_start;
 use device::valid::valid;
 use registers::access::accessed;
+use registers::fields::monitor_only;
+use registers::fields::standby;
 use registers::kept::config_refused;
 use registers::kept::control_kept;
 use registers::kept::dynamics_kept;
@@ -27,7 +29,6 @@ use rules::Place;
 use rules::READ_ONLY;
 use rules::STATE_NOT_VALID;
 use rules::State;
-use start::as_at_start;
 use words::count_word;
 use words::duty_word;
 use words::with_byte;
@@ -60,7 +61,7 @@ fn configured(channel: Channel, byte: u8) -> Channel
 {
     let mut next = channel;
     next.config = byte;
-    if byte / 16 % 2 == 1 {
+    if monitor_only(byte) {
         return stopped(next);
     }
     next
@@ -93,18 +94,6 @@ fn channel_written(channel: Channel, byte: u8, register: ChannelRegister) -> Cha
     }
 }
 
-fn byte_refused(register: ChannelRegister, byte: u8) -> bool
-    ensures { λ r. ⌜ r ≡ byteRefused register byte ⌝ }
-{
-    match register {
-        ChannelRegister::Config => config_refused(byte),
-        ChannelRegister::Dynamics => false,
-        ChannelRegister::Target(_) => false,
-        ChannelRegister::TargetCount(_) => false,
-        ChannelRegister::Window => false,
-    }
-}
-
 fn control_written(state: State, byte: u8) -> State
     ensures { λ r. ⌜ r ≡ boxWritten state byte Control ⌝ }
 {
@@ -115,7 +104,7 @@ fn control_written(state: State, byte: u8) -> State
     let mut next = state;
     let control = control_kept(byte);
     next.registers.control = control;
-    if byte / 128 % 2 == 1 {
+    if standby(byte) {
         let channels = state.channels;
         let still = all_stopped(channels);
         next.channels = still;
@@ -161,25 +150,58 @@ fn own_written(state: State, byte: u8, register: ChannelRegister, i: usize) -> S
     next
 }
 
+fn written(state: State, byte: u8, place: Place) -> State
+    requires { ⌜ indexOf place < 6 ⌝ }
+    ensures { λ r. ⌜ r ≡ written state byte place ⌝ }
+{
+    match place {
+        Place::Absent => state,
+        Place::ReadOnly(_) => state,
+        Place::Shared(register) => box_written(state, byte, register),
+        Place::Own(register, i) => own_written(state, byte, register, i),
+    }
+}
+
+fn byte_refusal(register: ChannelRegister, byte: u8) -> u8
+    ensures { λ r. ⌜ r ≡ byteRefusal register byte ⌝ }
+{
+    match register {
+        ChannelRegister::Config => {
+            if config_refused(byte) {
+                return CONFIG_NOT_ALLOWED;
+            }
+            ACCEPTED
+        }
+        ChannelRegister::Dynamics => ACCEPTED,
+        ChannelRegister::Target(_) => ACCEPTED,
+        ChannelRegister::TargetCount(_) => ACCEPTED,
+        ChannelRegister::Window => ACCEPTED,
+    }
+}
+
+// Why a byte cannot be written to a place, or 0.
+fn write_refusal(place: Place, byte: u8) -> u8
+    ensures { λ r. ⌜ r ≡ writeRefusal place byte ⌝ }
+{
+    match place {
+        Place::Absent => NOT_CARRIED,
+        Place::ReadOnly(_) => READ_ONLY,
+        Place::Shared(_) => ACCEPTED,
+        Place::Own(register, _) => byte_refusal(register, byte),
+    }
+}
+
 // A byte goes to an address.
 pub fn write(state: State, address: u32, byte: u8) -> Answer
-    ensures equal { λ r. ⌜ r ≡ writeOf state address byte ⌝ }
-    ensures kept { λ r. ⌜ (validOf state ≡ true → validOf (r .state) ≡ true) ⌝ }
+    ensures { λ r. ⌜ r ≡ writeOf state address byte ⌝ }
 {
     if !valid(state) {
         return answered(STATE_NOT_VALID, state);
     }
-    let fed = accessed(state);
     let place = place_at(address);
-    match place {
-        Place::Absent => answered(NOT_CARRIED, state),
-        Place::ReadOnly(_) => answered(READ_ONLY, state),
-        Place::Shared(register) => answered(ACCEPTED, box_written(fed, byte, register)),
-        Place::Own(register, i) => {
-            if byte_refused(register, byte) {
-                return answered(CONFIG_NOT_ALLOWED, state);
-            }
-            answered(ACCEPTED, own_written(fed, byte, register, i))
-        }
+    let refusal = write_refusal(place, byte);
+    if refusal != ACCEPTED {
+        return answered(refusal, state);
     }
+    answered(ACCEPTED, written(accessed(state), byte, place))
 }

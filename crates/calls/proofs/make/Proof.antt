@@ -50,26 +50,26 @@ without-byte-requires-4 c κs = search needs
 returns : tie.Need-returns
 unfolding made
 returns c =
-    rw (c .before .before .before .call .given .1) (c .without-byte .ensures ∙ ap withoutByte (c .before .write .ensures .0))
+    rw (c .before .before .before .call .given .1) (c .without-byte .ensures ∙ ap withoutByte (c .before .write .ensures))
 
 returns-2 : tie.Need-returns-2
 unfolding made
-returns-2 c = rw (c .before .before .call2 .given .1) (c .read .ensures .0)
+returns-2 c = rw (c .before .before .call2 .given .1) (c .read .ensures)
 
 returns-3 : tie.Need-returns-3
 unfolding made
 returns-3 c =
-    rw (c .before .before .before .call3 .given .1) (c .without-byte2 .ensures ∙ ap withoutByte (c .before .pass-ticks .ensures .0))
+    rw (c .before .before .before .call3 .given .1) (c .without-byte2 .ensures ∙ ap withoutByte (c .before .pass-ticks .ensures))
 
 returns-4 : tie.Need-returns-4
 unfolding made
 returns-4 c =
-    rw (c .before .before .before .call4 .given .1) (c .without-byte3 .ensures ∙ ap withoutByte (c .before .take-result .ensures .0))
+    rw (c .before .before .before .call4 .given .1) (c .without-byte3 .ensures ∙ ap withoutByte (c .before .take-result .ensures))
 
 returns-5 : tie.Need-returns-5
 unfolding made
 returns-5 c =
-    rw (c .before .before .before .call5 .given .1) (c .without-byte4 .ensures ∙ ap withoutByte (c .before .set-pin .ensures .0))
+    rw (c .before .before .before .call5 .given .1) (c .without-byte4 .ensures ∙ ap withoutByte (c .before .set-pin .ensures))
 
 pub make-spec : {M : Type 1} → statement M
 make-spec =

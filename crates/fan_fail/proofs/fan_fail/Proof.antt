@@ -4,8 +4,8 @@ use native.Mathlib.Omega.{arith}
 use lib.Count.{trailing-le}
 use lib.ListN.{length}
 use borrow.Author.Tests.{not-true, not-false}
-use Rattle.rules.proofs.Each.{length-before}
-use Rattle.rules.proofs.FanFail.{unmasked, fan-fail-refused, fan-fail-none, fan-fail-some}
+use Rattle.laws.proofs.Each.{length-before}
+use Rattle.laws.proofs.FanFail.{unmasked, fan-fail-refused, fan-fail-none, fan-fail-some}
 use borrow.Author.Needs.{needs}
 use Rattle.fan_fail.proofs.fan_fail.Statement.{statement}
 use Rattle.fan_fail.proofs.fan_fail.Tie as tie

@@ -1,6 +1,6 @@
 -- `reading::over_512` meets its contract. Assumes nothing.
 use native.Mathlib.Omega.{arith}
-use Rattle.rules.proofs.Exact.{divided-by-512}
+use Rattle.laws.proofs.Exact.{divided-by-512}
 use borrow.Author.Needs.{needs}
 use Rattle.reading.proofs.over_512.Statement.{statement}
 use Rattle.reading.proofs.over_512.Tie as tie

@@ -3,8 +3,8 @@ use Prim.Native.Nat.{_^_, _<_}
 use mathlib.Core.Path.{_≡_, sym, _∙_}
 use lib.ListN.{length}
 use borrow.Author.Tests.{not-true, not-false}
-use Rattle.rules.proofs.Each.{length-before}
-use Rattle.rules.proofs.Exact.{zero-over-512, reading-refused, reading-given}
+use Rattle.laws.proofs.Each.{length-before}
+use Rattle.laws.proofs.Exact.{zero-over-512, reading-refused, reading-given}
 use borrow.Author.Needs.{needs}
 use Rattle.reading.proofs.reading.Statement.{statement}
 use Rattle.reading.proofs.reading.Tie as tie

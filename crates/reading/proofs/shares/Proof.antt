@@ -8,7 +8,7 @@ use borrow.Author.Needs.{needs}
 use Rattle.rules.specs.State.{blank}
 use Rattle.rules.specs.Duty.{outputDuty}
 use Rattle.rules.specs.Reading.{over512, shareOf}
-use Rattle.rules.proofs.Each.{Filled, filled-none, filled-more, filled-all, length-before}
+use Rattle.laws.proofs.Each.{Filled, filled-none, filled-more, filled-all, length-before}
 use Rattle.reading.proofs.shares.Statement.{statement}
 use Rattle.reading.proofs.shares.Tie as tie
 

@@ -3,7 +3,7 @@ use mathlib.Core.Path.{_≡_, sym, _∙_}
 use mathlib.Core.Bool.{false}
 use native.Mathlib.Omega.{arith}
 use Rattle.rules.specs.Speed.{speedRange, speedRefused}
-use Rattle.rules.proofs.Revolutions.{Accepted, speed-accepted, speed-range-le, divisor-le, divisor-pos, speed-refused, speed-given}
+use Rattle.laws.proofs.Revolutions.{Accepted, speed-accepted, speed-range-le, divisor-le, divisor-pos, speed-refused, speed-given}
 use borrow.Author.Needs.{needs}
 use Rattle.speed.proofs.speed.Statement.{statement}
 use Rattle.speed.proofs.speed.Tie as tie

@@ -1,76 +1,83 @@
 -- `start::start` meets its contract. Assumes nothing.
-use mathlib.Core.Path.{_≡_}
-use borrow.Author.Tests.{lt-ltb, le-ltb}
-use Rattle.rules.specs.Valid.{validStart}
-use Rattle.rules.specs.declared.Answer.{Answer}
 use Rattle.rules.specs.Start.{startOf}
-use Rattle.rules.proofs.Promises.{StartPromise, started}
+use Rattle.rules.specs.Valid.{validStart}
+use borrow.Author.Tests.{lt-ltb, le-ltb}
 use borrow.Author.Needs.{needs}
 use Rattle.start.proofs.start.Statement.{statement}
 use Rattle.start.proofs.start.Tie as tie
 
-promised : (c : tie.Start) {r : Answer} →
-    r ≡ startOf (c .args .watchdog) (c .args .spinup) (c .args .target) (c .args .frequency) →
-    StartPromise (c .args .watchdog) (c .args .spinup) (c .args .target) (c .args .frequency) r
-promised c e = started (c .args .watchdog) (c .args .spinup) (c .args .target) (c .args .frequency) _ e
+zero-state-requires : tie.Need-zero-state-requires
+zero-state-requires c κs = search needs
 
-start-refused-requires : tie.Need-start-refused-requires
-start-refused-requires c κs = search needs
+answered-requires : tie.Need-answered-requires
+answered-requires c κs = search needs
 
 returns : tie.Need-returns
 unfolding startOf validStart
 returns c =
-    promised (c .before .before)
-    (simp (le-ltb _ 4 (c .before .if1 .taken)) (c .start-refused .ensures))
+    simp (le-ltb _ 4 (c .before .before .if1 .taken)) (rw (c .before .zero-state .ensures) at (c .answered .ensures))
 
-start-refused-requires-2 : tie.Need-start-refused-requires-2
-start-refused-requires-2 c κs = search needs
+zero-state-requires-2 : tie.Need-zero-state-requires-2
+zero-state-requires-2 c κs = search needs
+
+answered-requires-2 : tie.Need-answered-requires-2
+answered-requires-2 c κs = search needs
 
 returns-2 : tie.Need-returns-2
 unfolding startOf validStart
 returns-2 c =
-    promised (c .before .before .before)
-    (simp (lt-ltb _ 4 (c .before .before .if1 .left), le-ltb _ 4 (c .before .if2 .taken)) (c .start-refused2 .ensures))
+    simp (lt-ltb _ 4 (c .before .before .before .if1 .left), le-ltb _ 4 (c .before .before .if2 .taken))
+    (rw (c .before .zero-state2 .ensures) at (c .answered2 .ensures))
 
-start-refused-requires-3 : tie.Need-start-refused-requires-3
-start-refused-requires-3 c κs = search needs
+zero-state-requires-3 : tie.Need-zero-state-requires-3
+zero-state-requires-3 c κs = search needs
+
+answered-requires-3 : tie.Need-answered-requires-3
+answered-requires-3 c κs = search needs
 
 returns-3 : tie.Need-returns-3
 unfolding startOf validStart
 returns-3 c =
-    promised (c .before .before .before .before)
-    (simp (lt-ltb _ 4 (c .before .before .before .if1 .left), lt-ltb _ 4 (c .before .before .if2 .left), le-ltb _ 512 (c .before .if3 .taken)) (c .start-refused3 .ensures))
+    simp (lt-ltb _ 4 (c .before .before .before .before .if1 .left), lt-ltb _ 4 (c .before .before .before .if2 .left), le-ltb _ 512 (c .before .before .if3 .taken))
+    (rw (c .before .zero-state3 .ensures) at (c .answered3 .ensures))
 
-cast-t7 : tie.Need-cast-t7
-cast-t7 c = search needs
+cast-t10 : tie.Need-cast-t10
+cast-t10 c = search needs
 
-cast-t8 : tie.Need-cast-t8
-cast-t8 c = search needs
+cast-t11 : tie.Need-cast-t11
+cast-t11 c = search needs
 
-cast-t9 : tie.Need-cast-t9
-cast-t9 c = search needs
+cast-t12 : tie.Need-cast-t12
+cast-t12 c = search needs
 
 as-at-start-requires : tie.Need-as-at-start-requires
 as-at-start-requires c κs = search needs
 
+answered-requires-4 : tie.Need-answered-requires-4
+answered-requires-4 c κs = search needs
+
 returns-4 : tie.Need-returns-4
 unfolding startOf validStart
 returns-4 c =
-    promised (c .before .before .before .before)
-    (simp (lt-ltb _ 4 (c .before .before .before .if1 .left), lt-ltb _ 4 (c .before .before .if2 .left), lt-ltb _ 512 (c .before .if3 .left), c .as-at-start .ensures))
+    simp (lt-ltb _ 4 (c .before .before .before .before .if1 .left), lt-ltb _ 4 (c .before .before .before .if2 .left), lt-ltb _ 512 (c .before .before .if3 .left))
+    (rw (c .before .as-at-start .ensures) at (c .answered4 .ensures))
 
 pub start-spec : {M : Type 1} → statement M
 start-spec =
     tie.close
     (tie.spec
-    start-refused-requires
+    zero-state-requires
+    answered-requires
     returns
-    start-refused-requires-2
+    zero-state-requires-2
+    answered-requires-2
     returns-2
-    start-refused-requires-3
+    zero-state-requires-3
+    answered-requires-3
     returns-3
-    cast-t7
-    cast-t8
-    cast-t9
+    cast-t10
+    cast-t11
+    cast-t12
     as-at-start-requires
+    answered-requires-4
     returns-4)

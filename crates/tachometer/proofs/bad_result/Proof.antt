@@ -6,11 +6,8 @@ use Rattle.tachometer.proofs.bad_result.Tie as tie
 one-more-requires : tie.Need-one-more-requires
 one-more-requires c κs = search needs
 
-with-results-requires : tie.Need-with-results-requires
-with-results-requires c κs = search needs
-
 returns : tie.Need-returns
-returns c = rw (c .before .before .one-more .ensures) at (c .with-results .ensures)
+returns c = simp (c .before .one-more .ensures)
 
 pub bad-result-spec : {M : Type 1} → statement M
-bad-result-spec = tie.close (tie.spec one-more-requires with-results-requires returns)
+bad-result-spec = tie.close (tie.spec one-more-requires returns)

@@ -7,9 +7,12 @@ use Rattle.tachometer.proofs.judged.Tie as tie
 output-duty-requires : tie.Need-output-duty-requires
 output-duty-requires c κs = search needs
 
+monitor-only-requires : tie.Need-monitor-only-requires
+monitor-only-requires c κs = search needs
+
 returns : tie.Need-returns
 unfolding judged
-returns c = rw (c .before .before .output-duty .ensures)
+returns c = simp (c .monitor-only .ensures, c .before .before .before .output-duty .ensures)
 
 pub judged-spec : {M : Type 1} → statement M
-judged-spec = tie.close (tie.spec output-duty-requires returns)
+judged-spec = tie.close (tie.spec output-duty-requires monitor-only-requires returns)

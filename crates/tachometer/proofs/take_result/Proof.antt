@@ -1,11 +1,11 @@
--- `tachometer::take_result` meets its contract. Assumes nothing.
-use Prim.Native.Nat.{_≤_}
-use mathlib.Core.Path.{sym, _∙_}
-use native.Mathlib.Omega.{arith}
-use borrow.Author.Tests.{not-false}
+-- `tachometer::take_result` meets its contract: each return is a line of the ladder. Assumes nothing.
+use Rattle.laws.proofs.Promises.{not-valid, is-valid}
+use Rattle.laws.proofs.Results.{channel-in-range}
 use Rattle.rules.specs.Tachometer.{resultOf}
-use Rattle.rules.proofs.Results.{channel-in-range}
-use Rattle.rules.proofs.Promises.{result-promised}
+use native.Mathlib.Omega.{arith}
+use Prim.Native.Nat.{_≤_}
+use borrow.Author.Tests.{not-true, not-false}
+use mathlib.Core.Path.{sym, _∙_}
 use borrow.Author.Needs.{needs}
 use Rattle.tachometer.proofs.take_result.Statement.{statement}
 use Rattle.tachometer.proofs.take_result.Tie as tie
@@ -21,10 +21,7 @@ answered-requires c κs = search needs
 
 returns : tie.Need-returns
 unfolding resultOf
-returns c =
-    let start = c .before .before .before in
-    result-promised (start .args .state) (start .args .channel) (start .args .count) _
-    (simp (rw (c .before .before .valid .ensures) at (c .before .if1 .taken)) (c .answered .ensures))
+returns c = not-valid _ _ _ (sym (c .before .before .valid .ensures) ∙ not-true _ (c .before .if1 .taken)) (c .answered .ensures)
 
 is-channel-requires : tie.Need-is-channel-requires
 is-channel-requires c κs = search needs
@@ -35,13 +32,8 @@ answered-requires-2 c κs = search needs
 returns-2 : tie.Need-returns-2
 unfolding resultOf
 returns-2 c =
-    let start = c .before .before .before .before .before in
-    result-promised (start .args .state) (start .args .channel) (start .args .count) _
-    (simp (
-      rw (c .before .before .before .before .valid .ensures) at (c .before .before .before .if1 .left),
-      rw (c .before .before .is-channel .ensures) at (c .before .if2 .taken),
-    )
-    (c .answered2 .ensures))
+    is-valid _ _ _ (sym (c .before .before .before .before .valid .ensures) ∙ not-false _ (c .before .before .before .if1 .left))
+    (rw (sym (c .before .before .is-channel .ensures) ∙ not-true _ (c .before .if2 .taken)) (c .answered2 .ensures))
 
 sub-i : tie.Need-sub-i
 sub-i c = in-range c .0
@@ -58,12 +50,8 @@ answered-requires-3 c κs = search needs
 returns-3 : tie.Need-returns-3
 unfolding resultOf
 returns-3 c =
-    let start = c .before .before .before .before .before .before in
-    result-promised (start .args .state) (start .args .channel) (start .args .count) _
-    (simp (
-      rw (c .before .before .before .before .before .valid .ensures) at (c .before .before .before .before .if1 .left),
-      rw (c .before .before .before .is-channel .ensures) at (c .before .before .if2 .left),
-    )
+    is-valid _ _ _ (sym (c .before .before .before .before .before .valid .ensures) ∙ not-false _ (c .before .before .before .before .if1 .left))
+    (rw (sym (c .before .before .before .is-channel .ensures) ∙ not-false _ (c .before .before .if2 .left))
     (rw (c .before .with-result .ensures) at (c .answered3 .ensures)))
 
 pub take-result-spec : {M : Type 1} → statement M

@@ -6,8 +6,8 @@ use lib.ListN.{length}
 use borrow.Author.Needs.{needs}
 use Rattle.rules.specs.State.{blank}
 use Rattle.rules.specs.Tick.{overridden}
-use Rattle.rules.proofs.Each.{Filled, filled-none, filled-more, filled-all}
-use Rattle.rules.proofs.ChannelTicks.{channelTicks}
+use Rattle.laws.proofs.Each.{Filled, filled-none, filled-more, filled-all}
+use Rattle.laws.proofs.ChannelTicks.{channelTicks}
 use Rattle.ticks.proofs.channels_after.Statement.{statement}
 use Rattle.ticks.proofs.channels_after.Tie as tie
 

@@ -1,7 +1,7 @@
 -- `pass_each` meets its contract: what the calls still to come lead to stays the same. Assumes nothing.
 use Prim.Native.Nat.{suc, _-_, _≤_, _<_}
 use mathlib.Core.Path.{_≡_, refl, sym, _∙_, ap}
-use mathlib.Core.Bool.{true, false, false≢true}
+use mathlib.Core.List.{map}
 use native.Mathlib.Omega.{arith}
 use native.Mathlib.Numerals.{add-one}
 use lib.ListN.{length, drop}
@@ -9,15 +9,14 @@ use lib.Seq.{drop-cons, drop-length}
 use borrow.Author.Needs.{needs}
 use borrow.Author.Tests.{not-true, not-false}
 use Rattle.rules.specs.declared.Answer.{Answer}
-use Rattle.rules.specs.Valid.{validOf}
-use Rattle.rules.specs.Calls.{accepted, answer}
-use Rattle.rules.specs.Elapsed.{endOf, eachPassed}
-use Rattle.rules.proofs.Elapsed.{end-counted}
+use Rattle.rules.specs.declared.Call.the-variants.{Ticks}
+use Rattle.rules.specs.Make.{made, afterEach, eachPassed}
+use Rattle.laws.proofs.Promises.{not-valid, is-valid}
 use Rattle.ticks.proofs.pass_each.Statement.{statement}
 use Rattle.ticks.proofs.pass_each.Tie as tie
 
 abbrev Inv-loop : tie.InvT-loop
-Inv-loop elapsed last₀ made₀ last made = (made ≤ length elapsed) × (endOf last (drop made elapsed) ≡ endOf last₀ elapsed)
+Inv-loop elapsed last₀ made₀ last made = (made ≤ length elapsed) × (afterEach last (map Ticks (drop made elapsed)) ≡ afterEach last₀ (map Ticks elapsed))
 
 abbrev μ-loop : tie.MeasureT-loop
 μ-loop elapsed last₀ made₀ last made = length elapsed - made
@@ -25,15 +24,12 @@ abbrev μ-loop : tie.MeasureT-loop
 valid-requires : tie.Need-valid-requires Inv-loop μ-loop
 valid-requires c κs = search needs
 
-refused-requires : tie.Need-refused-requires Inv-loop μ-loop
-refused-requires c κs = search needs
+answered-requires : tie.Need-answered-requires Inv-loop μ-loop
+answered-requires c κs = search needs
 
 returns : tie.Need-returns Inv-loop μ-loop
 unfolding eachPassed
-returns c =
-    let v : validOf (c .before .before .before .before .args .state) ≡ false =
-    sym (c .before .before .valid .ensures) ∙ not-true _ (c .before .if1 .taken) in
-    (rw v (c .refused .ensures), λ e. absurd (false≢true (sym v ∙ e)))
+returns c = not-valid _ _ _ (sym (c .before .before .valid .ensures) ∙ not-true _ (c .before .if1 .taken)) (c .answered .ensures)
 
 loop-holds : tie.Need-loop-holds Inv-loop μ-loop
 loop-holds c = (omega arith, refl)
@@ -54,28 +50,31 @@ loop-less : tie.Need-loop-less Inv-loop μ-loop
 loop-less c = search needs
 
 loop-again : tie.Need-loop-again Inv-loop μ-loop
-unfolding endOf
+unfolding made afterEach
 loop-again c =
     let loop = c .before .before .before .before .loop in
     let elapsed = c .before .before .before .before .before .before .before .before .args .elapsed .now in
     let more : loop .made < length elapsed = omega arith in (
       omega arith,
       rw add-one
-          (ap (λ (r : Answer). endOf (r .state) (drop (suc (loop .made)) elapsed)) (c .before .pass-ticks .ensures .0)
-          ∙ sym (ap (endOf (loop .last)) (drop-cons elapsed (loop .made) 0 more)) ∙ loop .inv .1),
+          (ap (λ (r : Answer). afterEach (r .state) (map Ticks (drop (suc (loop .made)) elapsed))) (c .before .pass-ticks .ensures)
+          ∙ sym (ap (λ l. afterEach (loop .last) (map Ticks l)) (drop-cons elapsed (loop .made) 0 more)) ∙ loop .inv .1),
     )
 
+answered-requires-2 : tie.Need-answered-requires-2 Inv-loop μ-loop
+answered-requires-2 c κs = search needs
+
 returns-2 : tie.Need-returns-2 Inv-loop μ-loop
-unfolding endOf eachPassed
+unfolding afterEach eachPassed
 returns-2 c =
-    let start = c .before .before .before .before .before .args in
-    let loop = c .before .loop in
+    let start = c .before .before .before .before .before .before .args in
+    let loop = c .before .before .loop in
     let elapsed = start .elapsed .now in
-    let v : validOf (start .state) ≡ true = sym (c .before .before .before .valid .ensures) ∙ not-false _ (c .before .before .if1 .left) in
     let all : loop .made ≡ length elapsed = omega arith in
-    let e : loop .last ≡ endOf (start .state) elapsed =
-    sym (ap (endOf (loop .last)) (ap (λ n. drop n elapsed) all ∙ drop-length elapsed)) ∙ loop .inv .1 in
-    (rw v (ap (answer accepted) e), λ _. ap (answer accepted) (e ∙ end-counted (start .state) elapsed v))
+    let last : loop .last ≡ afterEach (start .state) (map Ticks elapsed) =
+    sym (ap (λ l. afterEach (loop .last) (map Ticks l)) (ap (λ n. drop n elapsed) all ∙ drop-length elapsed)) ∙ loop .inv .1 in
+    is-valid _ _ _ (sym (c .before .before .before .before .valid .ensures) ∙ not-false _ (c .before .before .before .if1 .left))
+    (rw last at (c .answered2 .ensures))
 
 pub pass-each-spec : {M : Type 1} → statement M
 pass-each-spec =
@@ -84,7 +83,7 @@ pass-each-spec =
     Inv-loop
     μ-loop
     valid-requires
-    refused-requires
+    answered-requires
     returns
     loop-holds
     mul-pass-ticks
@@ -93,4 +92,5 @@ pass-each-spec =
     add-made
     loop-less
     loop-again
+    answered-requires-2
     returns-2)

@@ -1,11 +1,10 @@
 -- `passed` meets its contract: the watchdog does not count, or stays below its limit, or reaches it. Assumes nothing.
-use mathlib.Core.Path.{_≡_, sym, _∙_}
-use mathlib.Core.Bool.{true}
-use Prim.Native.Nat.{_^_, _<_}
+use Rattle.laws.proofs.StateTicks.{counting, counting-below, channelsAfter, free-ticks, counting-ticks, expiring-ticks}
+use Rattle.rules.specs.Tick.{idleLimit}
 use native.Mathlib.Omega.{arith}
-use Rattle.rules.specs.Registers.{watchdogCode}
-use Rattle.rules.specs.Time.{watchdogLimit}
-use Rattle.rules.proofs.StateTicks.{counting, counting-below, channelsAfter, free-ticks, counting-ticks, expiring-ticks}
+use Prim.Native.Nat.{_^_, _<_}
+use mathlib.Core.Bool.{true}
+use mathlib.Core.Path.{_≡_, sym, _∙_}
 use borrow.Author.Needs.{needs}
 use Rattle.ticks.proofs.passed.Statement.{statement}
 use Rattle.ticks.proofs.passed.Tie as tie
@@ -20,7 +19,7 @@ module _ (c : tie.Then1) where
   counts = sym (c .before .is-counting .ensures) ∙ c .if1 .taken
 
   -- a valid state's idle count is below the limit then
-  below : c .before .before .before .before .before .before .args .state .timer .idle < watchdogLimit (watchdogCode (c .before .before .before .before .before .before .args .state .registers))
+  below : c .before .before .before .before .before .before .args .state .timer .idle < idleLimit (c .before .before .before .before .before .before .args .state)
   below = let start = c .before .before .before .before .before .before in counting-below (start .args .state) (start .pre) counts
 
 conditions-requires : tie.Need-conditions-requires
@@ -32,14 +31,14 @@ wrapping-add-u32-requires c κs = search needs
 is-counting-requires : tie.Need-is-counting-requires
 is-counting-requires c κs = search needs
 
-watchdog-limit-requires : tie.Need-watchdog-limit-requires
-watchdog-limit-requires c κs = search needs
+idle-limit-requires : tie.Need-idle-limit-requires
+idle-limit-requires c κs = search needs
 
 sub-room : tie.Need-sub-room
-sub-room c = omega (arith, below (c .before .before .before), c .before .watchdog-limit .ensures)
+sub-room c = omega (arith, below (c .before .before), c .before .idle-limit .ensures)
 
 sub-room-2 : tie.Need-sub-room-2
-sub-room-2 c = omega (arith, below (c .before .before .before), c .before .watchdog-limit .ensures)
+sub-room-2 c = omega (arith, below (c .before .before), c .before .idle-limit .ensures)
 
 cast-if2 : tie.Need-cast-if2
 cast-if2 c = search needs
@@ -59,11 +58,11 @@ timed-requires c κs = search needs
 returns : tie.Need-returns
 unfolding channelsAfter
 returns c =
-    let on = c .before .before .before .before .before .before .before in
+    let on = c .before .before .before .before .before .before in
     let start = on .before .before .before .before .before .before in
-    let limit : c .before .before .before .before .before .watchdog-limit .result ≡ watchdogLimit (watchdogCode (start .args .state .registers)) = c .before .before .before .before .before .watchdog-limit .ensures in
+    let limit = c .before .before .before .before .before .idle-limit .ensures in
     simp (c .timed .ensures, c .before .before .channels-after .ensures, on .before .before .before .before .before .conditions .ensures, on .before .before .wrapping-add-u32 .ensures)
-    (sym (counting-ticks (start .args .ticks) (start .args .state) (clock-fits start) (counts on) (omega (arith, below on, c .before .before .before .if2 .taken))))
+    (sym (counting-ticks (start .args .ticks) (start .args .state) (clock-fits start) (counts on) (omega (arith, limit, below on, c .before .before .before .if2 .taken))))
 
 cast-channels-after : tie.Need-cast-channels-after
 cast-channels-after c = search needs
@@ -77,11 +76,11 @@ timed-requires-2 c κs = search needs
 returns-2 : tie.Need-returns-2
 unfolding channelsAfter
 returns-2 c =
-    let on = c .before .before .before .before .before .before in
+    let on = c .before .before .before .before .before in
     let start = on .before .before .before .before .before .before in
-    let limit : c .before .before .before .before .watchdog-limit .result ≡ watchdogLimit (watchdogCode (start .args .state .registers)) = c .before .before .before .before .watchdog-limit .ensures in
+    let limit = c .before .before .before .before .idle-limit .ensures in
     simp (c .timed2 .ensures, c .before .channels-after2 .ensures, on .before .before .before .before .before .conditions .ensures, on .before .before .wrapping-add-u32 .ensures, limit)
-    (sym (expiring-ticks (start .args .state) (counts on) (below on) (start .args .ticks) (omega (arith, c .before .before .if2 .left))))
+    (sym (expiring-ticks (start .args .state) (counts on) (below on) (start .args .ticks) (omega (arith, limit, c .before .before .if2 .left))))
 
 channels-after-requires-3 : tie.Need-channels-after-requires-3
 channels-after-requires-3 c κs = search needs
@@ -104,7 +103,7 @@ passed-spec =
     conditions-requires
     wrapping-add-u32-requires
     is-counting-requires
-    watchdog-limit-requires
+    idle-limit-requires
     sub-room
     sub-room-2
     cast-if2

@@ -6,7 +6,7 @@ use lib.ListN.{length}
 use borrow.Author.Needs.{needs}
 use Rattle.rules.specs.State.{blank}
 use Rattle.rules.specs.Write.{stopped}
-use Rattle.rules.proofs.Each.{Filled, filled-none, filled-more, filled-all}
+use Rattle.laws.proofs.Each.{Filled, filled-none, filled-more, filled-all}
 use Rattle.write.proofs.all_stopped.Statement.{statement}
 use Rattle.write.proofs.all_stopped.Tie as tie
 

@@ -1,4 +1,5 @@
 -- `write::control_written` meets its contract. Assumes nothing.
+use mathlib.Core.Path.{sym, _∙_}
 use borrow.Author.Tests.{eq-eqb, ne-eqb}
 use Rattle.rules.specs.Write.{boxWritten}
 use borrow.Author.Needs.{needs}
@@ -15,6 +16,9 @@ returns c = simp (eq-eqb _ 1 (c .before .before .if1 .taken)) (c .as-at-start .e
 control-kept-requires : tie.Need-control-kept-requires
 control-kept-requires c κs = search needs
 
+standby-requires : tie.Need-standby-requires
+standby-requires c κs = search needs
+
 all-stopped-requires : tie.Need-all-stopped-requires
 all-stopped-requires c κs = search needs
 
@@ -22,9 +26,9 @@ returns-2 : tie.Need-returns-2
 unfolding boxWritten
 returns-2 c =
     simp (
-      ne-eqb _ 1 (c .before .before .before .before .before .if1 .left),
-      eq-eqb _ 1 (c .before .before .if2 .taken),
-      c .before .before .before .before .control-kept .ensures,
+      ne-eqb _ 1 (c .before .before .before .before .before .before .if1 .left),
+      sym (c .before .before .before .standby .ensures) ∙ c .before .before .if2 .taken,
+      c .before .before .before .before .before .control-kept .ensures,
       c .all-stopped .ensures,
     )
 
@@ -32,9 +36,9 @@ returns-3 : tie.Need-returns-3
 unfolding boxWritten
 returns-3 c =
     simp (
-      ne-eqb _ 1 (c .before .before .before .if1 .left),
-      ne-eqb _ 1 (c .if2 .left),
-      c .before .before .control-kept .ensures,
+      ne-eqb _ 1 (c .before .before .before .before .if1 .left),
+      sym (c .before .standby .ensures) ∙ c .if2 .left,
+      c .before .before .before .control-kept .ensures,
     )
 
 pub control-written-spec : {M : Type 1} → statement M
@@ -44,6 +48,7 @@ control-written-spec =
     as-at-start-requires
     returns
     control-kept-requires
+    standby-requires
     all-stopped-requires
     returns-2
     returns-3)

@@ -5,7 +5,7 @@ use native.Mathlib.Omega.{arith}
 use lib.ListN.{length, drop, drop-of-length-le, length-drop}
 use borrow.Author.Needs.{needs}
 use Rattle.rules.specs.Duty.{faultByte}
-use Rattle.rules.proofs.Faults.{fault-byte-small, fault-byte-front}
+use Rattle.laws.proofs.Faults.{fault-byte-small, fault-byte-front}
 use Rattle.device.proofs.duty.fault_byte.Statement.{statement}
 use Rattle.device.proofs.duty.fault_byte.Tie as tie
 

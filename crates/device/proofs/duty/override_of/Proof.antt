@@ -1,46 +1,16 @@
 -- `duty::override_of` meets its contract. Assumes nothing.
-use borrow.Author.Tests.{eq-eqb, ne-eqb}
-use Rattle.rules.specs.Duty.{overrideOf}
 use borrow.Author.Needs.{needs}
 use Rattle.device.proofs.duty.override_of.Statement.{statement}
 use Rattle.device.proofs.duty.override_of.Tie as tie
 
+monitor-only-requires : tie.Need-monitor-only-requires
+monitor-only-requires c κs = search needs
+
+override-by-requires : tie.Need-override-by-requires
+override-by-requires c κs = search needs
+
 returns : tie.Need-returns
-unfolding overrideOf
-returns c = simp (eq-eqb _ 1 (c .if1 .taken))
-
-returns-2 : tie.Need-returns-2
-unfolding overrideOf
-returns-2 c = simp (ne-eqb _ 1 (c .before .before .if1 .left), c .if2 .taken)
-
-returns-3 : tie.Need-returns-3
-unfolding overrideOf
-returns-3 c = simp (ne-eqb _ 1 (c .before .before .before .if1 .left), c .before .if2 .left, c .if3 .taken)
-
-returns-4 : tie.Need-returns-4
-unfolding overrideOf
-returns-4 c =
-    simp (
-      ne-eqb _ 1 (c .before .before .before .before .if1 .left),
-      c .before .before .if2 .left,
-      c .before .if3 .left,
-      c .if4 .taken,
-    )
-
-failed-fan-requires : tie.Need-failed-fan-requires
-failed-fan-requires c κs = search needs
-
-returns-5 : tie.Need-returns-5
-unfolding overrideOf
-returns-5 c =
-    simp (
-      ne-eqb _ 1 (c .before .before .before .before .before .if1 .left),
-      c .before .before .before .if2 .left,
-      c .before .before .if3 .left,
-      c .before .if4 .left,
-    )
-    (c .failed-fan .ensures)
+returns c = rw (c .before .monitor-only .ensures) at (c .override-by .ensures)
 
 pub override-of-spec : {M : Type 1} → statement M
-override-of-spec =
-    tie.close (tie.spec returns returns-2 returns-3 returns-4 failed-fan-requires returns-5)
+override-of-spec = tie.close (tie.spec monitor-only-requires override-by-requires returns)

@@ -10,8 +10,14 @@ valid-registers-requires c κs = search needs
 valid-start-requires : tie.Need-valid-start-requires
 valid-start-requires c κs = search needs
 
+watchdog-code-requires : tie.Need-watchdog-code-requires
+watchdog-code-requires c κs = search needs
+
 valid-timer-requires : tie.Need-valid-timer-requires
 valid-timer-requires c κs = search needs
+
+standby-requires : tie.Need-standby-requires
+standby-requires c κs = search needs
 
 valid-channels-requires : tie.Need-valid-channels-requires
 valid-channels-requires c κs = search needs
@@ -20,9 +26,11 @@ returns : tie.Need-returns
 unfolding validOf
 returns c =
     simp (
-      c .before .before .before .before .valid-registers .ensures,
-      c .before .before .before .valid-start .ensures,
+      c .before .before .before .before .before .valid-registers .ensures,
+      c .before .before .before .before .valid-start .ensures,
+      c .before .before .before .watchdog-code .ensures,
       c .before .before .valid-timer .ensures,
+      c .before .standby .ensures,
       c .valid-channels .ensures,
     )
 
@@ -32,6 +40,8 @@ valid-spec =
     (tie.spec
     valid-registers-requires
     valid-start-requires
+    watchdog-code-requires
     valid-timer-requires
+    standby-requires
     valid-channels-requires
     returns)

@@ -4,6 +4,9 @@ use borrow.Author.Needs.{needs}
 use Rattle.device.proofs.valid.valid_channel.Statement.{statement}
 use Rattle.device.proofs.valid.valid_channel.Tie as tie
 
+monitor-only-requires : tie.Need-monitor-only-requires
+monitor-only-requires c κs = search needs
+
 valid-settings-requires : tie.Need-valid-settings-requires
 valid-settings-requires c κs = search needs
 
@@ -15,9 +18,15 @@ valid-motion-requires c κs = search needs
 
 returns : tie.Need-returns
 unfolding validChannel
-returns c = simp (c .before .before .valid-settings .ensures, c .before .valid-results .ensures, c .valid-motion .ensures)
+returns c =
+    simp (c .before .before .before .monitor-only .ensures, c .before .before .valid-settings .ensures, c .before .valid-results .ensures, c .valid-motion .ensures)
 
 pub valid-channel-spec : {M : Type 1} → statement M
 valid-channel-spec =
     tie.close
-    (tie.spec valid-settings-requires valid-results-requires valid-motion-requires returns)
+    (tie.spec
+    monitor-only-requires
+    valid-settings-requires
+    valid-results-requires
+    valid-motion-requires
+    returns)

@@ -1,6 +1,6 @@
 -- `valid::valid_timer` meets its contract. Assumes nothing.
-use borrow.Author.Tests.{eq-eqb, ne-eqb}
 use Rattle.rules.specs.Valid.{validTimer}
+use borrow.Author.Tests.{eq-eqb, ne-eqb}
 use borrow.Author.Needs.{needs}
 use Rattle.device.proofs.valid.valid_timer.Statement.{statement}
 use Rattle.device.proofs.valid.valid_timer.Tie as tie
@@ -15,20 +15,12 @@ watchdog-limit-requires c κs = search needs
 returns-2 : tie.Need-returns-2
 unfolding validTimer
 returns-2 c =
-    simp (
-      ne-eqb _ 0 (c .before .before .before .if1 .left),
-      c .before .if2 .taken,
-      c .before .before .watchdog-limit .ensures,
-    )
+    simp (ne-eqb _ 0 (c .before .before .before .if1 .left), c .before .if2 .taken, c .before .before .watchdog-limit .ensures)
 
 returns-3 : tie.Need-returns-3
 unfolding validTimer
 returns-3 c =
-    simp (
-      ne-eqb _ 0 (c .before .before .before .if1 .left),
-      c .before .if2 .left,
-      c .before .before .watchdog-limit .ensures,
-    )
+    simp (ne-eqb _ 0 (c .before .before .before .if1 .left), c .before .if2 .left, c .before .before .watchdog-limit .ensures)
 
 pub valid-timer-spec : {M : Type 1} → statement M
 valid-timer-spec = tie.close (tie.spec returns watchdog-limit-requires returns-2 returns-3)

@@ -1,7 +1,7 @@
 -- `fraction::over_512` meets its contract. Assumes nothing.
 use native.Mathlib.Omega.{arith}
 use lib.Dec.{le→leb}
-use Rattle.rules.proofs.Exact.{divided-by-512}
+use Rattle.laws.proofs.Exact.{divided-by-512}
 use Rattle.text.proofs.fraction.over_512.Statement.{statement}
 use Rattle.text.proofs.fraction.over_512.Tie as tie
 

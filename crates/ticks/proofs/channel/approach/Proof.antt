@@ -1,7 +1,7 @@
 -- `channel::approach` meets its contract. Assumes nothing.
 use native.Mathlib.Omega.{arith}
 use borrow.Author.Tests.{le-leb, lt-leb}
-use Rattle.rules.proofs.Ramp.{approach}
+use Rattle.laws.proofs.Ramp.{approach}
 use borrow.Author.Needs.{needs}
 use Rattle.ticks.proofs.channel.approach.Statement.{statement}
 use Rattle.ticks.proofs.channel.approach.Tie as tie

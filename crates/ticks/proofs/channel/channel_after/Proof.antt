@@ -2,7 +2,7 @@
 use Prim.Native.Nat.{_≤_}
 use mathlib.Core.Path.{sym, _∙_, ap}
 use native.Mathlib.Omega.{arith}
-use Rattle.rules.proofs.ChannelTicks.{channelTicks, ticks-held, ticks-spin, ticks-past}
+use Rattle.laws.proofs.ChannelTicks.{channelTicks, ticks-held, ticks-spin, ticks-past}
 use borrow.Author.Needs.{needs}
 use Rattle.ticks.proofs.channel.channel_after.Statement.{statement}
 use Rattle.ticks.proofs.channel.channel_after.Tie as tie
@@ -26,26 +26,26 @@ returns-2 c =
     let a = c .before .before .args in
     sym (ap (λ b. channelTicks b (a .ticks) (a .clock) (a .channel)) (c .before .if1 .left) ∙ ticks-spin (a .ticks) (a .clock) (a .channel) (c .if2 .taken))
 
-cast-at-rest : tie.Need-cast-at-rest
-cast-at-rest c = search needs
+cast-not-spinning : tie.Need-cast-not-spinning
+cast-not-spinning c = search needs
 
-add-at-rest : tie.Need-add-at-rest
-add-at-rest c = search needs
+add-not-spinning : tie.Need-add-not-spinning
+add-not-spinning c = search needs
 
-cast-at-rest-2 : tie.Need-cast-at-rest-2
-cast-at-rest-2 c = search needs
+cast-not-spinning-2 : tie.Need-cast-not-spinning-2
+cast-not-spinning-2 c = search needs
 
-sub-at-rest : tie.Need-sub-at-rest
-sub-at-rest c = search needs
+sub-not-spinning : tie.Need-sub-not-spinning
+sub-not-spinning c = search needs
 
-at-rest-requires : tie.Need-at-rest-requires
-at-rest-requires c κs = search needs
+not-spinning-requires : tie.Need-not-spinning-requires
+not-spinning-requires c κs = search needs
 
 returns-3 : tie.Need-returns-3
 returns-3 c =
     let a = c .before .before .before .args in
     let past : a .channel .spin ≤ a .ticks = omega (arith, c .before .if2 .left) in
-    c .at-rest .ensures
+    c .not-spinning .ensures
     ∙ sym (ap (λ b. channelTicks b (a .ticks) (a .clock) (a .channel)) (c .before .before .if1 .left) ∙ ticks-past (a .ticks) (a .clock) (a .channel) past)
 
 pub channel-after-spec : {M : Type 1} → statement M
@@ -57,9 +57,9 @@ channel-after-spec =
     cast-next
     sub-next
     returns-2
-    cast-at-rest
-    add-at-rest
-    cast-at-rest-2
-    sub-at-rest
-    at-rest-requires
+    cast-not-spinning
+    add-not-spinning
+    cast-not-spinning-2
+    sub-not-spinning
+    not-spinning-requires
     returns-3)

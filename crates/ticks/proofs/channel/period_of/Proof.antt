@@ -1,29 +1,25 @@
--- `channel::period_of` meets its contract: the table's period, or twice that. Assumes nothing.
-use native.Mathlib.Omega.{arith}
-use Rattle.rules.specs.Registers.{rateCode}
-use Rattle.ticks.proofs.Periods.{period-is, period-le}
+-- `channel::period_of` meets its contract. Assumes nothing.
+use native.Mathlib.Nat.{mod-mod}
 use borrow.Author.Needs.{needs}
 use Rattle.ticks.proofs.channel.period_of.Statement.{statement}
 use Rattle.ticks.proofs.channel.period_of.Tie as tie
 
-cast-period : tie.Need-cast-period
-cast-period c = search needs
+wanted-requires : tie.Need-wanted-requires
+wanted-requires c κs = search needs
 
-mul-period : tie.Need-mul-period
-mul-period c = search needs
+rate-code-requires : tie.Need-rate-code-requires
+rate-code-requires c κs = search needs
 
-array-read-period : tie.Need-array-read-period
-array-read-period c = search needs
+asymmetric-requires : tie.Need-asymmetric-requires
+asymmetric-requires c κs = search needs
 
-mul-result : tie.Need-mul-result
-mul-result c = omega (arith, period-le (rateCode (c .before .before .before .before .args .channel)) (omega arith))
+rate-period-requires : tie.Need-rate-period-requires
+rate-period-requires c κs = search needs
 
 returns : tie.Need-returns
-returns c = simp (c .if1 .taken, period-is (rateCode (c .before .before .before .before .args .channel)) (omega arith))
-
-returns-2 : tie.Need-returns-2
-returns-2 c = simp (c .if1 .left, period-is (rateCode (c .before .before .before .before .args .channel)) (omega arith))
+returns c = rw (c .before .asymmetric .ensures, c .before .before .rate-code .ensures, c .before .before .before .before .wanted .ensures, mod-mod) at (c .rate-period .ensures)
 
 pub period-of-spec : {M : Type 1} → statement M
 period-of-spec =
-    tie.close (tie.spec cast-period mul-period array-read-period mul-result returns returns-2)
+    tie.close
+    (tie.spec wanted-requires rate-code-requires asymmetric-requires rate-period-requires returns)

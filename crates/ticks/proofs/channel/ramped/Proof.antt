@@ -1,24 +1,32 @@
 -- `channel::ramped` meets its contract: as many steps as multiples of the period are passed. Assumes nothing.
-use Prim.Native.Nat.{suc, _-_}
-use mathlib.Core.Path.{_≡_, sym, _∙_, ap}
-use mathlib.Core.Bool.{false}
+use Rattle.laws.proofs.ChannelTicks.{channelTicks, period-pos, ticks-at-once, ticks-ramp}
+use Rattle.laws.proofs.Ramp.{multiples-from}
 use native.Mathlib.Omega.{arith}
-use Rattle.rules.proofs.Ramp.{multiples-from}
-use Rattle.rules.proofs.ChannelTicks.{channelTicks, period-pos, ticks-at-once, ticks-ramp}
+use mathlib.Core.Bool.{false}
+use mathlib.Core.Path.{_≡_, sym, _∙_, ap}
+use Prim.Native.Nat.{suc, _-_}
 use borrow.Author.Needs.{needs}
 use Rattle.ticks.proofs.channel.ramped.Statement.{statement}
 use Rattle.ticks.proofs.channel.ramped.Tie as tie
 
+wanted-requires : tie.Need-wanted-requires
+wanted-requires c κs = search needs
+
+rate-code-requires : tie.Need-rate-code-requires
+rate-code-requires c κs = search needs
+
 returns : tie.Need-returns
 unfolding channelTicks
-returns c = let a = c .before .before .before .args in ap (λ n. channelTicks false n (a .clock) (a .channel)) (sym (c .if2 .taken))
+returns c = let a = c .before .before .before .before .args in ap (λ n. channelTicks false n (a .clock) (a .channel)) (sym (c .if2 .taken))
 
 returns-2 : tie.Need-returns-2
 returns-2 c =
-    let start = c .before .before .before in
+    let start = c .before .before .before .before in
     let e : start .args .ticks ≡ suc (start .args .ticks - 1) = omega (arith, c .if2 .left) in
-    sym (ap (λ n. channelTicks false n (start .args .clock) (start .args .channel)) e
-    ∙ ticks-at-once (start .args .clock) (start .args .channel) (start .pre .0) (start .pre .1) (start .args .ticks - 1) (c .before .if1 .taken))
+    rw (c .before .before .before .wanted .ensures)
+    (sym (ap (λ n. channelTicks false n (start .args .clock) (start .args .channel)) e
+    ∙ ticks-at-once (start .args .clock) (start .args .channel) (start .pre .0) (start .pre .1) (start .args .ticks - 1)
+    (rw (c .before .before .rate-code .ensures) at (c .before .if1 .taken))))
 
 period-of-requires : tie.Need-period-of-requires
 period-of-requires c κs = search needs
@@ -30,27 +38,30 @@ add-steps : tie.Need-add-steps
 add-steps c = search needs
 
 div-steps : tie.Need-div-steps
-div-steps c = rw (c .period-of .ensures) (period-pos (c .before .before .before .args .channel))
+div-steps c = rw (c .period-of .ensures) (period-pos (c .before .before .before .before .args .channel))
 
 div-steps-2 : tie.Need-div-steps-2
-div-steps-2 c = rw (c .period-of .ensures) (period-pos (c .before .before .before .args .channel))
+div-steps-2 c = rw (c .period-of .ensures) (period-pos (c .before .before .before .before .args .channel))
 
 sub-steps : tie.Need-sub-steps
-sub-steps c = rw (c .period-of .ensures) (multiples-from _ (period-pos (c .before .before .before .args .channel)) _ _)
+sub-steps c = rw (c .period-of .ensures) (multiples-from _ (period-pos (c .before .before .before .before .args .channel)) _ _)
 
 approach-requires : tie.Need-approach-requires
 approach-requires c κs = search needs
 
 returns-3 : tie.Need-returns-3
 returns-3 c =
-    let start = c .before .before .before .before in
-    rw (c .approach .ensures, c .before .period-of .ensures)
-    (sym (ticks-ramp (start .args .clock) (start .args .channel) (start .pre .0) (start .pre .1) (start .args .ticks) (c .before .before .if1 .left)))
+    let start = c .before .before .before .before .before in
+    rw (c .approach .ensures, c .before .period-of .ensures, c .before .before .before .before .wanted .ensures)
+    (sym (ticks-ramp (start .args .clock) (start .args .channel) (start .pre .0) (start .pre .1) (start .args .ticks)
+    (λ z. c .before .before .if1 .left (c .before .before .before .rate-code .ensures ∙ z))))
 
 pub ramped-spec : {M : Type 1} → statement M
 ramped-spec =
     tie.close
     (tie.spec
+    wanted-requires
+    rate-code-requires
     returns
     returns-2
     period-of-requires

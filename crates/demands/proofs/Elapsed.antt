@@ -1,0 +1,197 @@
+-- Demand 3 holds.
+use Prim.Native.Nat.{ℕ, _+_, _-_, _≤_, _<_}
+use mathlib.Core.Path.{_≡_, refl, sym, _∙_, ap}
+use mathlib.Core.Bool.{true, false, false≢true}
+use mathlib.Core.List.{List, [], _∷_, map}
+use native.Mathlib.Decide.{decLt}
+use native.Mathlib.Omega.{arith}
+use lib.Dec.{ltb}
+use lib.ListN.{length, List·getD-eq-default, replicate}
+use borrow.Author.Tests.{ltb-true, ltb-false, eqb-false, le-ltb}
+use Rattle.demands.specs.Types.{Channel, StartValues, State, Conditions, Override, None, Duty, Answer}
+use Rattle.rules.specs.State.{blank, channel, withMotion, withChannels}
+use Rattle.rules.specs.Registers.{rateCode, watchdogCode}
+use Rattle.rules.specs.Duty.{conditionsOf, overrideBy, overrideOf, dutyUnder, outputDuty}
+use Rattle.rules.specs.Valid.{validChannel, validRegisters, validStart, validTimer, validOf}
+use Rattle.rules.specs.Start.{startChannel, asAtStart}
+use Rattle.rules.specs.Calls.{accepted, stateNotValid, answer, readAnswer}
+use Rattle.rules.specs.Make.{made, madeEach, afterEach}
+use Rattle.rules.specs.Tick.{wanted, periodOf, spinUpDue, inForce, overridden, tick, iterate, ticksPassed}
+use Rattle.demands.specs.Elapsed.{answers, endOf, total, totals, distance, settlingTicks, dutyAt, Settles, AsCounted}
+use Rattle.rules.proofs.Tests.{by-test}
+use Rattle.laws.proofs.Iterate.{iterate-add}
+use Rattle.laws.proofs.Each.{map-at}
+use Rattle.laws.proofs.Ramp.{approach, multiples, approach-up, approach-down, multiples-settled, multiples-sooner}
+use Rattle.laws.proofs.ChannelTicks.{channelTicks, rampedBy, period-pos, ticks-ramp}
+use Rattle.laws.proofs.TickValid.{iterate-valid}
+use Rattle.laws.proofs.Keep.{passed-valid, passed-refused}
+use Rattle.laws.proofs.StateTicks.{counting-live, channelsAfter, ahead, ticks-ahead, ahead-conditions}
+
+-- ---- the calls
+
+-- from the state that t ticks left
+counted-from : (s : State) (t : ℕ) (elapsed : List ℕ) → validOf s ≡ true →
+    answers (iterate t tick s) elapsed ≡ map (λ k. readAnswer accepted 0 (iterate k tick s)) (totals t elapsed)
+unfolding made madeEach totals
+counted-from s t [] v = refl
+counted-from s t (n ∷ elapsed) v =
+    let e : ticksPassed (iterate t tick s) n ≡ answer accepted (iterate (t + n) tick s) =
+    passed-valid (iterate t tick s) n (iterate-valid t s v) ∙ ap (answer accepted) (sym (iterate-add tick t n s)) in
+    rw e (ap (λ rest. readAnswer accepted 0 (iterate (t + n) tick s) ∷ rest) (counted-from s (t + n) elapsed v))
+
+all-refused : (s : State) (elapsed : List ℕ) → validOf s ≡ false → answers s elapsed ≡ map (λ n. readAnswer stateNotValid 0 s) elapsed
+unfolding made madeEach
+all-refused s [] v = refl
+all-refused s (n ∷ elapsed) v = rw (passed-refused s n v) (ap (λ rest. readAnswer stateNotValid 0 s ∷ rest) (all-refused s elapsed v))
+
+-- where a list of calls ends
+pub end-counted : (s : State) (elapsed : List ℕ) → validOf s ≡ true → endOf s elapsed ≡ iterate (total elapsed) tick s
+unfolding made afterEach total
+end-counted s [] v = unfold iterate in refl
+end-counted s (n ∷ elapsed) v =
+    ap (λ (a : Answer). endOf (a .state) elapsed) (passed-valid s n v)
+    ∙ end-counted (iterate n tick s) elapsed (iterate-valid n s v) ∙ sym (iterate-add tick n (total elapsed) s)
+
+end-refused : (s : State) (elapsed : List ℕ) → validOf s ≡ false → endOf s elapsed ≡ s
+unfolding made afterEach
+end-refused s [] v = refl
+end-refused s (n ∷ elapsed) v = ap (λ (a : Answer). endOf (a .state) elapsed) (passed-refused s n v) ∙ end-refused s elapsed v
+
+same-end : (s : State) (one other : List ℕ) → total one ≡ total other → endOf s one ≡ endOf s other
+same-end s one other e =
+    by-test (validOf s)
+    (λ v. end-counted s one v ∙ ap (λ n. iterate n tick s) e ∙ sym (end-counted s other v))
+    (λ v. end-refused s one v ∙ sym (end-refused s other v))
+
+one-after-the-other : (s : State) (a b : ℕ) → ticksPassed (ticksPassed s a .state) b ≡ ticksPassed s (a + b)
+one-after-the-other s a b =
+    by-test (validOf s)
+    (λ v. rw (passed-valid s a v, passed-valid s (a + b) v)
+    (passed-valid (iterate a tick s) b (iterate-valid a s v) ∙ ap (answer accepted) (sym (iterate-add tick a b s))))
+    (λ v. rw (passed-refused s a v) (passed-refused s b v ∙ sym (passed-refused s (a + b) v)))
+
+-- ---- settling
+
+-- so many steps lead to the goal, and fewer do not
+module _ (ch : Channel) (n : ℕ) where
+  far-enough : distance ch ≤ n → approach (ch .ramp) (wanted ch) n ≡ wanted ch
+  far-enough h =
+      by-test (ltb (ch .ramp) (wanted ch))
+      (λ e. let l : wanted ch - ch .ramp ≤ n = rw e at h in
+      omega (arith, ltb-true (ch .ramp) (wanted ch) e, approach-up (ch .ramp) (wanted ch) n (omega (arith, ltb-true (ch .ramp) (wanted ch) e))))
+      (λ e. let l : ch .ramp - wanted ch ≤ n = rw e at h in
+      omega (arith, approach-down (ch .ramp) (wanted ch) n (ltb-false (ch .ramp) (wanted ch) e)))
+
+  not-far-enough : n < distance ch → approach (ch .ramp) (wanted ch) n ≡ wanted ch → ⊥
+  not-far-enough h a =
+      by-test (ltb (ch .ramp) (wanted ch))
+      (λ e. let l : n < wanted ch - ch .ramp = rw e at h in
+      omega (arith, approach-up (ch .ramp) (wanted ch) n (omega (arith, ltb-true (ch .ramp) (wanted ch) e))))
+      (λ e. let l : n < ch .ramp - wanted ch = rw e at h in
+      omega (arith, approach-down (ch .ramp) (wanted ch) n (ltb-false (ch .ramp) (wanted ch) e)))
+
+-- with no override in force and no spin-up the duty is the ramp value
+free-duty : (k : Conditions) (ch : Channel) → overridden k ch ≡ false → ch .spin ≡ 0 → outputDuty k ch ≡ ch .ramp
+unfolding outputDuty
+free-duty k ch free z = by-override (overrideOf k ch) free
+  where
+    by-override : (o : Override) → inForce o ≡ false → dutyUnder o ch ≡ ch .ramp
+    by-override None e = rw (le-ltb 0 (ch .spin) (omega arith)) refl
+    by-override (Duty d) e = absurd (false≢true (sym e))
+
+-- a channel with no override in force, k ticks that the watchdog does not end later
+module _ (s : State) (i : ℕ) (exists : i < length (s .channels)) (free : overridden (conditionsOf s) (channel s i) ≡ false) (k : ℕ) where
+  pub channel-ahead : channel (ahead s k) i ≡ channelTicks false k (s .timer .clock) (channel s i)
+  unfolding ahead channelsAfter
+  channel-ahead =
+      map-at (λ x. channelTicks (overridden (conditionsOf s) x) k (s .timer .clock) x) (s .channels) i blank blank exists
+      ∙ ap (λ held. channelTicks held k (s .timer .clock) (channel s i)) free
+
+  pub duty-ahead : (ramp spin : ℕ) → channelTicks false k (s .timer .clock) (channel s i) ≡ withMotion (channel s i) ramp spin → spin ≡ 0 →
+      dutyAt (ahead s k) i ≡ ramp
+  unfolding overrideBy
+  duty-ahead ramp spin e z =
+      ap (λ cond. outputDuty cond (channel (ahead s k) i)) (ahead-conditions s k)
+      ∙ ap (outputDuty (conditionsOf s)) (channel-ahead ∙ e)
+      ∙ free-duty (conditionsOf s) (withMotion (channel s i) ramp spin) free z
+
+module _ (s : State) (i : ℕ) (c : Settles s i) where
+  ch : Channel
+  ch = channel s i
+
+  -- past the last channel there is none with a rate code
+  exists : i < length (s .channels)
+  exists =
+      elim (decLt i (length (s .channels))) [
+        | yes h ↦ h
+        | no g ↦ absurd (c .has-rate (ap (λ (x : Channel). rateCode (x .dynamics)) (List·getD-eq-default (s .channels) blank (omega arith))))
+      ]
+
+  far : 0 < distance ch
+  unfolding ch
+  far =
+      let off : channel s i .ramp ≡ wanted (channel s i) → ⊥ = λ e. c .off-target (free-duty (conditionsOf s) (channel s i) (c .not-overridden) (c .not-running) ∙ e) in
+      by-test (ltb (channel s i .ramp) (wanted (channel s i)))
+      (λ e. rw e (omega (arith, ltb-true (channel s i .ramp) (wanted (channel s i)) e)))
+      (λ e. rw e (omega (arith, off, ltb-false (channel s i .ramp) (wanted (channel s i)) e)))
+
+  -- up to the settling tick the watchdog's limit is not reached, and the duty is the ramp's closed form
+  module _ (k : ℕ) (h : k ≤ settlingTicks (s .timer .clock) (channel s i)) where
+    short : iterate k tick s ≡ ahead s k
+    short =
+        ticks-ahead s k (λ on. let l = counting-live s on in
+        omega (arith, c .none-coming (eqb-false (watchdogCode (s .registers .control)) 0 (l .0)) (l .1)))
+
+    duty-then : dutyAt (iterate k tick s) i ≡ rampedBy (s .timer .clock) k (channel s i)
+    duty-then =
+        ap (λ x. dutyAt x i) short
+        ∙ duty-ahead s i exists (c .not-overridden) k _ (channel s i .spin)
+        (ticks-ramp (s .timer .clock) (channel s i) (c .not-running) (c .not-due) k (c .has-rate)) (c .not-running)
+
+  at-target : (elapsed : List ℕ) → total elapsed ≡ settlingTicks (s .timer .clock) (channel s i) → dutyAt (endOf s elapsed) i ≡ wanted (channel s i)
+  unfolding ch
+  at-target elapsed e =
+      let n = multiples-settled (periodOf (channel s i)) (period-pos (channel s i)) (s .timer .clock) (distance (channel s i)) far in
+      ap (λ x. dutyAt x i) (end-counted s elapsed (c .is-valid)) ∙ duty-then (total elapsed) (omega arith)
+      ∙ far-enough (channel s i) _ (omega (arith, ap (multiples (periodOf (channel s i)) (s .timer .clock)) e ∙ n))
+
+  off-target-before : (elapsed : List ℕ) → total elapsed < settlingTicks (s .timer .clock) (channel s i) → dutyAt (endOf s elapsed) i ≡ wanted (channel s i) → ⊥
+  unfolding ch
+  off-target-before elapsed l e =
+      let n = multiples-sooner (periodOf (channel s i)) (period-pos (channel s i)) (s .timer .clock) (distance (channel s i)) far (total elapsed) l in
+      not-far-enough (channel s i) _ n
+      (sym (ap (λ x. dutyAt x i) (end-counted s elapsed (c .is-valid)) ∙ duty-then (total elapsed) (omega arith)) ∙ e)
+
+-- ---- all of it
+
+pub as-counted : AsCounted
+as-counted =
+    record {
+      counted = λ s elapsed v. (unfold iterate in counted-from s 0 elapsed v);
+      refused = all-refused;
+      same-total = same-end;
+      joined = λ s a b h. one-after-the-other s a b;
+      settles = λ s i elapsed c e. at-target s i c elapsed e;
+      not-sooner = λ s i elapsed c l e. off-target-before s i c elapsed l e;
+    }
+
+-- a state and channel that settle: ramp value 100, target 110, rate code 3, clock 6, after 38 ticks
+abbrev pub settlingState : State
+settlingState =
+    let v : StartValues = record { watchdog = 0; spinup = 0; target = 110; frequency = 0 } in
+    withChannels (asAtStart v 6 true) (replicate 6 (withMotion (startChannel v) 100 0))
+
+pub settling-example : Settles settlingState 0 × (settlingTicks 6 (channel settlingState 0) ≡ 38)
+unfolding validOf validRegisters validStart validTimer validChannel conditionsOf overrideBy outputDuty spinUpDue wanted
+settling-example = (
+  record {
+    is-valid = refl;
+    off-target = eqb-false 100 110 refl;
+    has-rate = eqb-false 3 0 refl;
+    not-running = refl;
+    not-due = refl;
+    not-overridden = refl;
+    none-coming = λ on live. absurd (on refl);
+  },
+  refl,
+)

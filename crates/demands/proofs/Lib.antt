@@ -1,0 +1,4 @@
+-- The demands hold.
+pub mod Queue
+pub mod Elapsed
+pub mod Trials

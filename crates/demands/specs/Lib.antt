@@ -1,0 +1,4 @@
+-- The demands that speak of whole spans of time, and the trials of the paper.
+pub mod Types
+pub mod Elapsed
+pub mod Trials

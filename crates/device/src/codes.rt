@@ -1,0 +1,55 @@
+// What the codes of the registers stand for.
+ghost use mathlib.Core.Path.{_≡_};
+ghost use Prim.Native.Nat.{_%_};
+ghost use Rattle.rules.specs.Time.{watchdogLimit, spinTicks, ratePeriod};
+ghost use Rattle.rules.specs.Tachometer.{queueLength};
+
+const WATCHDOG_LIMITS: [u16; 4] = [0, 2560, 5120, 15360];
+
+const SPIN_TICKS: [u16; 4] = [0, 256, 512, 1024];
+
+const QUEUE_LENGTHS: [u8; 4] = [1, 2, 4, 6];
+
+// The periods of rate codes 1 to 7; code 0 has none, and its entry is not used.
+const PERIODS: [u32; 8] = [1, 1, 2, 4, 8, 16, 32, 64];
+
+// The idle ticks after which the watchdog expires, 0 where it is off.
+pub fn watchdog_limit(code: u8) -> u16
+    ensures { λ r. ⌜ r ≡ watchdogLimit code ⌝ }
+{
+    if code < 4 {
+        return WATCHDOG_LIMITS[code as usize];
+    }
+    0
+}
+
+// How long a spin-up lasts, 0 where there is none.
+pub fn spin_ticks(code: u8) -> u16
+    ensures { λ r. ⌜ r ≡ spinTicks code ⌝ }
+{
+    if code < 4 {
+        return SPIN_TICKS[code as usize];
+    }
+    0
+}
+
+// How many bad results in a row make a fault.
+pub fn queue_length(code: u8) -> u8
+    ensures { λ r. ⌜ r ≡ queueLength code ⌝ }
+{
+    if code < 4 {
+        return QUEUE_LENGTHS[code as usize];
+    }
+    0
+}
+
+// The ticks from one step of a ramp to the next, of the three bits of a rate code.
+pub fn rate_period(code: u8, doubled: bool) -> u32
+    ensures { λ r. ⌜ r ≡ ratePeriod (code % 8) doubled ⌝ }
+{
+    let period = PERIODS[(code % 8) as usize];
+    if doubled {
+        return 2 * period;
+    }
+    period
+}

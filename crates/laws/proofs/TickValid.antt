@@ -1,0 +1,133 @@
+-- A tick keeps a valid state valid.
+use Prim.Native.Nat.{ℕ, zero, suc, _+_, _-_, _%_, _≤_, _<_}
+use mathlib.Core.Path.{_≡_, refl, sym, _∙_}
+use mathlib.Core.Bool.{Bool, true, false, not, _||_}
+use mathlib.Core.List.{List}
+use native.Mathlib.Omega.{arith}
+use lib.Dec.{leb, ltb, eqb, lit<}
+use borrow.Author.Tests.{ltb-true, ltb-false, leb-true, leb-false, eqb-true, lt-ltb, le-leb, eq-eqb}
+use Rattle.laws.proofs.Types.{Channel, Timer, State, Conditions}
+use Rattle.rules.specs.Basics.{_implies_, every}
+use Rattle.rules.specs.State.{withMotion}
+use Rattle.rules.specs.Registers.{monitorOnly, spinCode, rateCode}
+use Rattle.rules.specs.Time.{watchdogLimit, spinTicks}
+use Rattle.rules.specs.Duty.{conditionsOf, overrideBy}
+use Rattle.rules.specs.Valid.{validMotion, validChannel, validTimer, validOf}
+use Rattle.rules.specs.Tick.{wanted, periodOf, spinUpDue, overridden, timerTick, toward, channelTick, channelsTick, tick, iterate}
+use Rattle.rules.proofs.Tests.{by-test, all-below, every-map}
+use Rattle.laws.proofs.Valid.{parts, valid-of-parts, ChannelParts, channel-parts, valid-of-channel-parts, settings-parts, four, of-four}
+use Rattle.laws.proofs.Ramp.{toward-lt}
+
+-- ---- the timer
+
+timer-tick-valid : (code : ℕ) (t : Timer) → validTimer code t ≡ true → validTimer code (timerTick code t) ≡ true
+unfolding validTimer timerTick
+timer-tick-valid code t h =
+    by-test (eqb code 0) (λ e. rw e (rw e at h))
+    (λ e. by-test (t .expired) (λ x. rw (e, x) (rw (e, x) at h))
+    (λ x. let l : t .idle < watchdogLimit code = ltb-true _ _ (rw (e, x) at h) in
+    by-test (leb (watchdogLimit code) (t .idle + 1))
+    (λ m. rw (e, x, m) (eq-eqb (t .idle + 1) (watchdogLimit code) (omega (arith, leb-true (watchdogLimit code) (t .idle + 1) m))))
+    (λ m. rw (e, x, m) (lt-ltb (t .idle + 1) (watchdogLimit code) (leb-false (watchdogLimit code) (t .idle + 1) m)))))
+
+-- ---- a channel
+
+-- a channel that is not overridden is not monitor only, nor is the box in standby
+module _ (k : Conditions) (ch : Channel) (free : overridden k ch ≡ false) where
+  not-monitor : monitorOnly (ch .config) ≡ false
+  unfolding overrideBy
+  not-monitor = by-test (monitorOnly (ch .config)) (λ m. m ∙ sym (rw m refl) ∙ free) (λ m. m)
+
+  not-standby : k .standby ≡ false
+  unfolding overrideBy
+  not-standby =
+      by-test (k .standby)
+      (λ b. by-test (k .pin) (λ p. b ∙ sym (rw (not-monitor, p, b) refl) ∙ free) (λ p. b ∙ sym (rw (not-monitor, p) refl) ∙ free))
+      (λ b. b)
+
+-- what validity says of a motion that need not be at rest
+record Moving (ramp spin : ℕ) : Type 0 where
+  low : ramp < 512
+  short : spin ≤ 1024
+  full : 0 < spin → ramp ≡ 511
+
+moving : (still : Bool) (ch : Channel) → validMotion still ch ≡ true → Moving (ch .ramp) (ch .spin)
+moving still ch e =
+    let t = four (ltb (ch .ramp) 512) (leb (ch .spin) 1024) _ _ e in
+    let full : (ltb 0 (ch .spin) implies eqb (ch .ramp) 511) ≡ true = t .3 in
+    record {
+      low = ltb-true _ 512 (t .0);
+      short = leb-true _ 1024 (t .1);
+      full = λ l. eqb-true _ 511 (rw (lt-ltb 0 (ch .spin) l) at full);
+    }
+
+moving-valid : (ch : Channel) (r p : ℕ) → Moving r p → validMotion false (withMotion ch r p) ≡ true
+moving-valid ch r p m =
+    of-four _ _ _ _ (lt-ltb r 512 (m .low)) (le-leb p 1024 (m .short)) refl
+    (by-test (ltb 0 p) (λ e. rw (e, eq-eqb r 511 (m .full (ltb-true 0 p e))) refl) (λ e. rw e refl))
+
+module _ (c : ℕ) (ch : Channel) (parts : ChannelParts false ch) (controlled : monitorOnly (ch .config) ≡ false) where
+  now : Moving (ch .ramp) (ch .spin)
+  now = moving (false || monitorOnly (ch .config)) ch (parts .motion)
+
+  target-lt : wanted ch < 512
+  unfolding wanted
+  target-lt = ltb-true _ 512 (settings-parts ch (parts .settings) .target)
+
+  moved-valid : (r p : ℕ) → Moving r p → validChannel false (withMotion ch r p) ≡ true
+  moved-valid r p m =
+      valid-of-channel-parts false (withMotion ch r p)
+      (record { settings = parts .settings; results = parts .results; motion = rw controlled (moving-valid ch r p m) })
+
+  spin-ticks-le : spinTicks (spinCode (ch .config)) ≤ 1024
+  unfolding spinTicks
+  spin-ticks-le = leb-true _ 1024 (all-below 4 (λ code. leb (spinTicks code) 1024) refl (spinCode (ch .config)) (omega arith))
+
+  free-tick-valid : validChannel false (channelTick false c ch) ≡ true
+  unfolding channelTick
+  free-tick-valid =
+      by-test (ltb 0 (ch .spin))
+      (λ e. rw e (moved-valid (ch .ramp) (ch .spin - 1)
+      (record { low = now .low; short = omega (arith, now .short); full = λ l. now .full (omega arith) })))
+      (λ e. let idle : 0 < ch .spin → ⊥ = λ l. omega (arith, ltb-false 0 (ch .spin) e) in
+      by-test (spinUpDue ch)
+      (λ d. rw (e, d) (moved-valid 511 (spinTicks (spinCode (ch .config))) (record { low = lit< tt; short = spin-ticks-le; full = λ l. refl })))
+      (λ d. by-test (eqb (rateCode (ch .dynamics)) 0)
+      (λ r. rw (e, d, r) (moved-valid (wanted ch) (ch .spin)
+      (record { low = target-lt; short = now .short; full = λ l. absurd (idle l) })))
+      (λ r. by-test (eqb (c % periodOf ch) 0)
+      (λ q. rw (e, d, r, q) (moved-valid (toward (ch .ramp) (wanted ch)) (ch .spin)
+      (record { low = toward-lt (ch .ramp) (wanted ch) 512 (now .low) target-lt; short = now .short; full = λ l. absurd (idle l) })))
+      (λ q. rw (e, d, r, q) (valid-of-channel-parts false ch parts)))))
+
+channel-tick-valid : (k : Conditions) (c : ℕ) (ch : Channel) → validChannel (k .standby) ch ≡ true →
+    validChannel (k .standby) (channelTick (overridden k ch) c ch) ≡ true
+channel-tick-valid k c ch v =
+    by-test (overridden k ch)
+    (λ o. rw o (unfold channelTick in v))
+    (λ o. let b = not-standby k ch o in
+    rw (o, b) (free-tick-valid c ch (channel-parts false ch (rw b at v)) (not-monitor k ch o)))
+
+-- ---- the state
+
+channels-tick-valid : (k : Conditions) (c : ℕ) (chs : List Channel) → every (validChannel (k .standby)) chs ≡ true →
+    every (validChannel (k .standby)) (channelsTick k c chs) ≡ true
+unfolding channelsTick
+channels-tick-valid k c chs e = every-map (validChannel _) (validChannel _) _ (channel-tick-valid k c) chs e
+
+pub tick-valid : (s : State) → validOf s ≡ true → validOf (tick s) ≡ true
+unfolding tick conditionsOf
+tick-valid s e =
+    let p = parts s e in
+    valid-of-parts (tick s)
+    (record {
+      registers = p .registers;
+      start = p .start;
+      timer = timer-tick-valid _ (s .timer) (p .timer);
+      channels = channels-tick-valid _ _ (s .channels) (p .channels);
+    })
+
+pub iterate-valid : (n : ℕ) (s : State) → validOf s ≡ true → validOf (iterate n tick s) ≡ true
+unfolding iterate
+iterate-valid zero s e = e
+iterate-valid (suc n) s e = iterate-valid n (tick s) (tick-valid s e)
