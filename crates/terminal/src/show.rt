@@ -3,10 +3,11 @@ use crate::answer::end_line;
 use crate::answer::less;
 use crate::answer::put_decimal;
 use crate::answer::put_spaces;
+use device::codes::watchdog_limit;
 use device::duty::conditions;
 use device::duty::output_duty;
 use device::valid::valid;
-use device::valid::watchdog_limit;
+use registers::fields::watchdog_code;
 use rules::Channel;
 use rules::Conditions;
 use rules::STATE_NOT_VALID;
@@ -128,8 +129,7 @@ fn put_channels(state: State, out: &mut [u8], at: usize) -> usize {
 }
 
 fn put_watchdog(state: State, out: &mut [u8], at: usize) -> usize {
-    let registers = state.registers;
-    let limit = watchdog_limit(registers);
+    let limit = watchdog_limit(watchdog_code(state.registers.control));
     if limit == 0 {
         return put(b"off", out, at);
     }

@@ -31,7 +31,7 @@ same-length c = search needs
 
 returns : tie.Need-returns
 returns c =
-    let answer = rw (c .before .before .before .before .before .before .before .before .before .value .ensures) at (c .before .before .before .before .before .before .before .before .read .ensures .0) in
+    let answer = rw (c .before .before .before .before .before .before .before .before .before .value .ensures) at (c .before .before .before .before .before .before .before .before .read .ensures) in
     rw (sym answer) (tells (c .replied .ensures) refl (c .before .before .before .put-line .ensures))
 
 pub read-call-spec : {M : Type 1} → statement M

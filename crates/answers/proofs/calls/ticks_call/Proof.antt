@@ -18,7 +18,7 @@ same-length c = search needs
 
 returns : tie.Need-returns
 returns c =
-    let answer = rw (c .before .before .before .before .before .value .ensures) at (c .before .before .before .before .pass-ticks .ensures .0) in
+    let answer = rw (c .before .before .before .before .before .value .ensures) at (c .before .before .before .before .pass-ticks .ensures) in
     rw (sym answer) (c .before .before .refusal-line .ensures)
 
 pub ticks-call-spec : {M : Type 1} → statement M

@@ -24,7 +24,7 @@ same-length c = search needs
 
 returns : tie.Need-returns
 returns c =
-    let answer = rw (c .before .before .before .before .before .byte .ensures, c .before .before .before .before .before .before .value2 .ensures, c .before .before .before .before .before .before .before .value .ensures) at (c .before .before .before .before .write .ensures .0) in
+    let answer = rw (c .before .before .before .before .before .byte .ensures, c .before .before .before .before .before .before .value2 .ensures, c .before .before .before .before .before .before .before .value .ensures) at (c .before .before .before .before .write .ensures) in
     rw (sym answer) (c .before .before .refusal-line .ensures)
 
 pub write-call-spec : {M : Type 1} → statement M
