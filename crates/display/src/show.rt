@@ -1,12 +1,15 @@
 // `show`: the state for a person to read.
 ghost use Rattle.text.specs.Frame.{Frame};
+use device::codes::watchdog_limit;
 use device::duty::conditions;
 use device::duty::output_duty;
 use device::valid::valid;
-use device::valid::watchdog_limit;
 use form::put_either;
 use form::put_form;
 use form::put_text;
+use registers::fields::range_code;
+use registers::fields::tachometer_enabled;
+use registers::fields::watchdog_code;
 use rules::Channel;
 use rules::Conditions;
 use rules::STATE_NOT_VALID;
@@ -38,8 +41,7 @@ pub fn put_seconds(name: &[u8; 10], ticks: u32, out: &mut [u8], at: usize) -> us
 fn put_watchdog(state: State, out: &mut [u8], at: usize) -> usize
     ensures { λ r. ⌜ Frame 52 at (now (out .entry)) (now (out .exit)) r ⌝ }
 {
-    let registers = state.registers;
-    let limit = watchdog_limit(registers);
+    let limit = watchdog_limit(watchdog_code(state.registers.control));
     if limit == 0 {
         return put_text(b"watchdog  off", out, at);
     }
@@ -111,7 +113,7 @@ fn put_pins(state: State, standby: bool, out: &mut [u8], at: usize) -> usize
 fn put_no_speed(channel: Channel, out: &mut [u8], at: usize) -> usize
     ensures { λ r. ⌜ Frame 10 at (now (out .entry)) (now (out .exit)) r ⌝ }
 {
-    if channel.config / 8 % 2 == 0 {
+    if !tachometer_enabled(channel.config) {
         return put_text(b"  tach off", out, at);
     }
     if channel.count == 0 {
@@ -124,7 +126,7 @@ fn put_no_speed(channel: Channel, out: &mut [u8], at: usize) -> usize
 fn put_speed(channel: Channel, out: &mut [u8], at: usize) -> usize
     ensures { λ r. ⌜ Frame 20 at (now (out .entry)) (now (out .exit)) r ⌝ }
 {
-    let speed = speed::speed(channel.dynamics as u32 / 32, 2, channel.count as u32);
+    let speed = speed::speed(range_code(channel.dynamics) as u32, 2, channel.count as u32);
     match speed {
         Speed::Rpm(rpm) => put_form(b"  ########", &[rpm], out, at),
         Speed::Refused => put_no_speed(channel, out, at),

@@ -17,8 +17,8 @@ use Rattle.rules.specs.Read.{controlByte}
 use Rattle.rules.specs.Duty.{faultByte}
 use Rattle.rules.specs.Valid.{validOf}
 use Rattle.rules.proofs.Tests.{flag-le}
-use Rattle.rules.proofs.Faults.{fault-bit}
-use Rattle.rules.proofs.Valid.{parts, registers-parts}
+use Rattle.laws.proofs.Faults.{fault-bit}
+use Rattle.laws.proofs.Valid.{parts, registers-parts}
 use Rattle.image.specs.Image.{boxTable, channelTable, limitsIn, numbersIn, Within, channelsNumbers, stateNumbers, channelsLimits, limits, byteOf, number, channelFrom, ownFrom, channelAt, registersFrom, timerFrom, startFrom, stateFrom}
 use Rattle.image.specs.RoundTrips.{StatusApart, RoundTrips}
 use Rattle.image.proofs.Held.{held, held-whole, within-none, within-length, within-take, within-drop, listed, listed-take}

@@ -1,6 +1,6 @@
 -- `faults` meets its contract. Assumes nothing.
 use native.Mathlib.Omega.{arith}
-use Rattle.rules.proofs.Faults.{fault-byte-small}
+use Rattle.laws.proofs.Faults.{fault-byte-small}
 use borrow.Author.Needs.{needs}
 use Rattle.image.proofs.faults.Statement.{statement}
 use Rattle.image.proofs.faults.Tie as tie
