@@ -5,18 +5,19 @@ use mathlib.Core.Bool.{true, false, false≢true}
 use mathlib.Core.List.{List, [], _∷_, map}
 use native.Mathlib.Decide.{decLt}
 use native.Mathlib.Omega.{arith}
-use lib.Dec.{ltb}
+use lib.Dec.{ltb, lit<}
 use lib.ListN.{length, List·getD-eq-default, replicate}
 use borrow.Author.Tests.{ltb-true, ltb-false, eqb-false, le-ltb}
 use Rattle.demands.specs.Types.{Channel, StartValues, State, Conditions, Override, None, Duty, Answer}
-use Rattle.rules.specs.State.{blank, channel, withMotion, withChannels}
+use Rattle.rules.specs.State.{blank, channel, withSettings, withMotion, withChannels, withTimer}
 use Rattle.rules.specs.Registers.{rateCode, watchdogCode}
+use Rattle.rules.specs.Time.{watchdogLimit}
 use Rattle.rules.specs.Duty.{conditionsOf, overrideBy, overrideOf, dutyUnder, outputDuty}
 use Rattle.rules.specs.Valid.{validChannel, validRegisters, validStart, validTimer, validOf}
 use Rattle.rules.specs.Start.{startChannel, asAtStart}
 use Rattle.rules.specs.Calls.{accepted, stateNotValid, answer, readAnswer}
 use Rattle.rules.specs.Make.{made, madeEach, afterEach}
-use Rattle.rules.specs.Tick.{wanted, periodOf, spinUpDue, inForce, overridden, tick, iterate, ticksPassed}
+use Rattle.rules.specs.Tick.{wanted, periodOf, spinUpDue, inForce, overridden, timer, tick, iterate, ticksPassed}
 use Rattle.demands.specs.Elapsed.{answers, endOf, total, totals, distance, settlingTicks, dutyAt, Settles, AsCounted}
 use Rattle.rules.proofs.Tests.{by-test}
 use Rattle.laws.proofs.Iterate.{iterate-add}
@@ -175,15 +176,22 @@ as-counted =
       not-sooner = λ s i elapsed c l e. off-target-before s i c elapsed l e;
     }
 
--- a state and channel that settle: ramp value 100, target 110, rate code 3, clock 6, after 38 ticks
-abbrev pub settlingState : State
-settlingState =
-    let v : StartValues = record { watchdog = 0; spinup = 0; target = 110; frequency = 0 } in
-    withChannels (asAtStart v 6 true) (replicate 6 (withMotion (startChannel v) 100 0))
+-- ---- states and channels that settle
 
-pub settling-example : Settles settlingState 0 × (settlingTicks 6 (channel settlingState 0) ≡ 38)
-unfolding validOf validRegisters validStart validTimer validChannel conditionsOf overrideBy outputDuty spinUpDue wanted
-settling-example = (
+-- six channels at a ramp value, with a target and a dynamics byte, at clock 6, under a watchdog code and an idle count
+abbrev settlingFrom : ℕ → ℕ → ℕ → ℕ → ℕ → State
+settlingFrom ramp target dynamics code idle =
+    let v : StartValues = record { watchdog = code; spinup = 0; target = target; frequency = 0 } in
+    let ch = withMotion (withSettings (startChannel v) 0 dynamics 0 target 480) ramp 0 in
+    withChannels (withTimer (asAtStart v 6 true) (timer 6 idle false false)) (replicate 6 ch)
+
+-- ramp value 100, target 110, rate code 3, watchdog off: after 38 ticks
+abbrev pub risingState : State
+risingState = settlingFrom 100 110 0x4C 0 0
+
+pub rising-example : Settles risingState 0 × (settlingTicks 6 (channel risingState 0) ≡ 38)
+unfolding validOf validRegisters validStart validTimer validChannel watchdogLimit conditionsOf overrideBy outputDuty spinUpDue wanted
+rising-example = (
   record {
     is-valid = refl;
     off-target = eqb-false 100 110 refl;
@@ -192,6 +200,26 @@ settling-example = (
     not-due = refl;
     not-overridden = refl;
     none-coming = λ on live. absurd (on refl);
+  },
+  refl,
+)
+
+-- ramp value 110, target 100, rate code 3, asymmetric fall, watchdog code 1 with 2,485 of 2,560 ticks counted: after 74 ticks, one
+-- before the watchdog would expire
+abbrev pub fallingState : State
+fallingState = settlingFrom 110 100 0x4E 1 2485
+
+pub falling-example : Settles fallingState 0 × (settlingTicks 6 (channel fallingState 0) ≡ 74)
+unfolding validOf validRegisters validStart validTimer validChannel watchdogLimit conditionsOf overrideBy outputDuty spinUpDue wanted
+falling-example = (
+  record {
+    is-valid = refl;
+    off-target = eqb-false 110 100 refl;
+    has-rate = eqb-false 3 0 refl;
+    not-running = refl;
+    not-due = refl;
+    not-overridden = refl;
+    none-coming = λ on live. lit< tt;
   },
   refl,
 )

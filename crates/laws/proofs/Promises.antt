@@ -8,7 +8,7 @@ use Rattle.rules.specs.Calls.{accepted, stateNotValid, notCarried, answer, read
 use Rattle.rules.specs.Valid.{validOf, ifValid}
 use Rattle.rules.specs.Write.{written, writeRefusal, writeOf, writeAt}
 use Rattle.rules.specs.Read.{placeByte, afterRead, readAt, readOf}
-use Rattle.laws.proofs.Types.{State, Place, Answer, ReadAnswer}
+use Rattle.laws.proofs.Types.{State, Answer, ReadAnswer}
 
 -- refusal 1, and what comes after it
 module _ (s : State) (given : Answer) where

@@ -11,7 +11,6 @@ use Rattle.laws.proofs.Types.{Channel, Timer, State, Conditions}
 use Rattle.rules.specs.Basics.{if_then_else_, some}
 use Rattle.rules.specs.State.{withChannels, withTimer}
 use Rattle.rules.specs.Registers.{monitorOnly, watchdogCode}
-use Rattle.rules.specs.Time.{watchdogLimit}
 use Rattle.rules.specs.Duty.{conditionsOf, overrideBy}
 use Rattle.rules.specs.Valid.{validTimer, validOf}
 use Rattle.rules.specs.Tick.{overridden, timer, idleLimit, timerTick, channelTick, channelsTick, tick, iterate}

@@ -1,7 +1,6 @@
 // The reading of clock and duties, which the paper calls the cabin reading.
 ghost use mathlib.Core.Path.{_≡_};
 ghost use mathlib.Core.List.{map};
-ghost use lib.ListN.{replicate};
 ghost use Rattle.rules.specs.Duty.{conditionsOf, outputDuty};
 ghost use Rattle.rules.specs.Reading.{over512, shareOf, readingOf, ExactReading};
 use device::duty::conditions;

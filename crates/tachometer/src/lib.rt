@@ -1,7 +1,7 @@
 // The call that takes a tachometer result.
 ghost use mathlib.Core.Path.{_≡_};
 ghost use Prim.Native.Nat.{_+_, _<_, min};
-ghost use Rattle.rules.specs.State.{resultsOf, withResults};
+ghost use Rattle.rules.specs.State.{results, resultsOf, withResults};
 ghost use Rattle.rules.specs.Tachometer.{storedCount, judged, isBad, badResult, resultTaken, channelResult, withResult, isChannel, resultOf};
 use device::answer::answered;
 use device::codes::queue_length;
@@ -43,6 +43,16 @@ fn is_bad(channel: Channel, stored: u16) -> bool
     channel.target_count < stored
 }
 
+fn results(count: u16, queue: u8, fault: bool) -> Results
+    ensures { λ r. ⌜ r ≡ results count queue fault ⌝ }
+{
+    Results {
+        count: count,
+        queue: queue,
+        fault: fault,
+    }
+}
+
 // The queue count after one more bad result.
 fn one_more(queue: u8) -> u8
     ensures { λ r. ⌜ r ≡ min (queue + 1) 6 ⌝ }
@@ -57,11 +67,7 @@ fn bad_result(needed: u8, stored: u16, before: Results) -> Results
     ensures { λ r. ⌜ r ≡ badResult needed stored before ⌝ }
 {
     let queue = one_more(before.queue);
-    Results {
-        count: stored,
-        queue: queue,
-        fault: before.fault | (needed <= queue),
-    }
+    results(stored, queue, before.fault | (needed <= queue))
 }
 
 // What a result makes of those before it: of a tachometer that is enabled or not, judged or not, bad or not, where so many
@@ -80,20 +86,12 @@ pub fn result_taken(
         return before;
     }
     if !is_judged {
-        return Results {
-            count: stored,
-            queue: before.queue,
-            fault: before.fault,
-        };
+        return results(stored, before.queue, before.fault);
     }
     if bad {
         return bad_result(needed, stored, before);
     }
-    Results {
-        count: stored,
-        queue: 0,
-        fault: before.fault,
-    }
+    results(stored, 0, before.fault)
 }
 
 fn with_results(channel: Channel, results: Results) -> Channel
@@ -109,11 +107,7 @@ fn with_results(channel: Channel, results: Results) -> Channel
 fn results_of(channel: Channel) -> Results
     ensures { λ r. ⌜ r ≡ resultsOf channel ⌝ }
 {
-    Results {
-        count: channel.count,
-        queue: channel.queue,
-        fault: channel.fault,
-    }
+    results(channel.count, channel.queue, channel.fault)
 }
 
 fn channel_result(conditions: Conditions, needed: u8, channel: Channel, count: u32) -> Channel

@@ -1,8 +1,6 @@
 -- `read::read` meets its contract: each return is a line of the ladder of refusals. Assumes nothing.
 use Rattle.laws.proofs.Promises.{read-not-valid, read-refused, read-accepted}
 use Rattle.rules.proofs.Map.{place-below-six}
-use Rattle.rules.specs.Map.{isCarried, indexOf}
-use Prim.Native.Nat.{_<_}
 use borrow.Author.Tests.{not-true, not-false}
 use mathlib.Core.Path.{sym, _∙_}
 use borrow.Author.Needs.{needs}

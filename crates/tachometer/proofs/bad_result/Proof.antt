@@ -6,8 +6,11 @@ use Rattle.tachometer.proofs.bad_result.Tie as tie
 one-more-requires : tie.Need-one-more-requires
 one-more-requires c κs = search needs
 
+results-requires : tie.Need-results-requires
+results-requires c κs = search needs
+
 returns : tie.Need-returns
-returns c = simp (c .before .one-more .ensures)
+returns c = rw (c .before .before .one-more .ensures) at (c .results .ensures)
 
 pub bad-result-spec : {M : Type 1} → statement M
-bad-result-spec = tie.close (tie.spec one-more-requires returns)
+bad-result-spec = tie.close (tie.spec one-more-requires results-requires returns)

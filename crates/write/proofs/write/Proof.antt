@@ -1,11 +1,9 @@
 -- `write::write` meets its contract: each return is a line of the ladder of refusals. Assumes nothing.
 use Rattle.laws.proofs.Promises.{not-valid, write-refused, write-accepted}
 use Rattle.rules.proofs.Map.{place-below-six}
-use Rattle.rules.specs.Map.{indexOf}
-use Rattle.rules.specs.Write.{writeRefusal, writeOf}
-use Prim.Native.Nat.{_<_}
+use Rattle.rules.specs.Write.{writeOf}
 use borrow.Author.Tests.{not-true, not-false}
-use mathlib.Core.Path.{sym, _∙_, ap}
+use mathlib.Core.Path.{sym, _∙_}
 use borrow.Author.Needs.{needs}
 use Rattle.write.proofs.write.Statement.{statement}
 use Rattle.write.proofs.write.Tie as tie
