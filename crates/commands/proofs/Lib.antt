@@ -1,3 +1,5 @@
-pub mod Verbs
+pub mod Names
+pub mod Limits
+pub mod Rows
 pub mod Taking
 pub mod Parsing

@@ -6,15 +6,14 @@ use native.Mathlib.Omega.{arith}
 use native.Mathlib.Numerals.{add-one}
 use lib.ListN.{length, take, drop, set}
 use lib.Seq.{sets}
-use borrow.Author.Tests.{lt-ltb, le-ltb}
-use Rattle.text.specs.declared.number.Number.the-variants as number
-use Rattle.text.specs.Number.{numberOf}
 use Rattle.text.specs.declared.line.Word.{Word}
 use Rattle.text.specs.declared.line.Word.the-variants.{At, Nothing}
 use Rattle.text.specs.Words.{wordsOf, Finds}
-use Rattle.commands.specs.declared.Verb.{Verb}
-use Rattle.commands.specs.declared.Numbers.the-variants.{Taken}
-use Rattle.commands.specs.Commands.{mostOf, tooLarge, notNumber, takenOf, numbersOf}
+use Rattle.commands.specs.declared.Reason.{Reason}
+use Rattle.commands.specs.declared.Value.the-variants.{Taken, Refused}
+use Rattle.commands.specs.declared.Numbers.{Numbers}
+use Rattle.commands.specs.declared.Numbers.the-variants as numbers
+use Rattle.commands.specs.Commands.{valueOf, takenOf, numbersOf}
 
 -- ---- a word that was found
 module _ {line : List ℕ} {from : ℕ} {word : Word} (finds : Finds line from word) where
@@ -28,38 +27,29 @@ module _ {line : List ℕ} {from : ℕ} {word : Word} (finds : Finds line from w
     pub found-within : (begin < end) × (end ≤ length line)
     found-within = let lies = rw e at (finds .lies) in (lies .1, lies .2)
 
--- ---- its number
-module _ (verb : Verb) (i : ℕ) (words : List (List ℕ)) where
-  pub none-taken : words ≡ [] → (Taken ≡ takenOf verb i words) × (numbersOf verb i words ≡ [])
+-- ---- a number is stored: the others come after it
+one-stored : (values : List ℕ) (i n : ℕ) {rest stored last : List ℕ} → sets values i stored ≡ last → stored ≡ n ∷ rest →
+    sets (set values i n) (i + 1) rest ≡ last
+one-stored values i n s e = rw add-one (sym (ap (sets values i) e) ∙ s)
+
+-- ---- what the words still to come make of the values: none is left, one is refused, or one is taken
+module _ (limits : List ℕ) (i : ℕ) {words : List (List ℕ)} (values : List ℕ) {taken : Numbers} {last : List ℕ}
+    (t : takenOf limits i words ≡ taken) (s : sets values i (numbersOf limits i words) ≡ last) where
+  pub none-left : words ≡ [] → (numbers.Taken ≡ taken) × (values ≡ last)
   unfolding takenOf numbersOf
-  none-taken e = (rw e, rw e)
+  none-left e = (rw e at t, rw e at s)
 
   module _ {word : List ℕ} {rest : List (List ℕ)} (e : words ≡ word ∷ rest) where
-    pub not-taken : numberOf word ≡ number.NotNumber → (notNumber i ≡ takenOf verb i words) × (numbersOf verb i words ≡ [])
+    pub one-refused : {reason : Reason} → valueOf limits i word ≡ Refused reason → (numbers.Wrong reason ≡ taken) × (values ≡ last)
     unfolding takenOf numbersOf
-    not-taken q = (rw (e, q), rw (e, q))
+    one-refused q = (rw (e, q) at t, rw (e, q) at s)
 
-    pub large-taken : numberOf word ≡ number.TooLarge → (tooLarge verb i ≡ takenOf verb i words) × (numbersOf verb i words ≡ [])
+    pub one-taken : {n : ℕ} → valueOf limits i word ≡ Taken n →
+        (takenOf limits (i + 1) rest ≡ taken) × (sets (set values i n) (i + 1) (numbersOf limits (i + 1) rest) ≡ last)
     unfolding takenOf numbersOf
-    large-taken q = (rw (e, q), rw (e, q))
-
-    module _ {n : ℕ} (q : numberOf word ≡ number.Value n) where
-      pub above-taken : mostOf verb i < n → (tooLarge verb i ≡ takenOf verb i words) × (numbersOf verb i words ≡ [])
-      unfolding takenOf numbersOf
-      above-taken h = (rw (e, q, lt-ltb _ _ h), rw (e, q, lt-ltb _ _ h))
-
-      pub value-taken : n ≤ mostOf verb i →
-          (takenOf verb i words ≡ takenOf verb (i + 1) rest) × (numbersOf verb i words ≡ n ∷ numbersOf verb (i + 1) rest)
-      unfolding takenOf numbersOf
-      value-taken h = (rw (e, q, le-ltb _ _ h), rw (e, q, le-ltb _ _ h))
-
--- ---- numbers stored one by one: none is left, or one more
-module _ (values : List ℕ) (i : ℕ) {stored last : List ℕ} (all : sets values i stored ≡ last) where
-  pub none-stored : stored ≡ [] → values ≡ last
-  none-stored e = sym (ap (sets values i) e) ∙ all
-
-  pub one-stored : {n : ℕ} {rest : List ℕ} → stored ≡ n ∷ rest → sets (set values i n) (i + 1) rest ≡ last
-  one-stored e = rw add-one (sym (ap (sets values i) e) ∙ all)
+    one-taken {n} q =
+        let more : numbersOf limits i words ≡ n ∷ numbersOf limits (i + 1) rest = rw (e, q) in
+        (rw (e, q) at t, one-stored values i n s more)
 
 pub no-words : (words : List (List ℕ)) → length words ≡ 0 → words ≡ []
 no-words [] e = refl

@@ -11,8 +11,8 @@ use Rattle.rules.specs.declared.Answer.{Answer}
 use Rattle.rules.specs.Reading.{readingOf}
 use Rattle.rules.specs.FanFail.{fanFailOf}
 use Rattle.text.specs.Words.{wordsOf, counted}
-use Rattle.commands.specs.declared.Verb.{Verb}
-use Rattle.commands.specs.declared.Verb.the-variants.{Write, Read, Ticks, Tach, Pin, Cabin, FanFail, Speed, Start, Dump, Load, Show, Help}
+use Rattle.commands.specs.declared.table.Verb.{Verb}
+use Rattle.commands.specs.declared.table.Verb.the-variants.{Write, Read, Ticks, Tach, Pin, Cabin, FanFail, Speed, Start, Dump, Load, Show, Chart, Help}
 use Rattle.commands.specs.declared.Parsed.{Parsed}
 use Rattle.commands.specs.declared.Parsed.the-variants.{Call, Wrong}
 use Rattle.commands.specs.Commands.{parsedOf, valuesOf}
@@ -45,6 +45,7 @@ module _ (s : State) (at : ℕ) (before after : List ℕ) (reply : Reply) where
   Answers Dump v = Replies (answerLine (stateNumbers s)) s at before after reply
   Answers Load v = Replies okLine (stateFrom v) at before after reply
   Answers Show v = reply .state ≡ s
+  Answers Chart v = reply .state ≡ s
   Answers Help v = reply .state ≡ s
 
   -- "a line that is no call leaves the state in hand as it was"

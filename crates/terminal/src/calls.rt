@@ -36,5 +36,6 @@ pub fn call(verb: Verb, state: State, values: &[u32], out: &mut [u8], at: usize)
         Verb::Load => load_call(values, out, at),
         Verb::Show => replied(state, put_show(state, out, at)),
         Verb::Help => replied(state, put_help(out, at)),
+        Verb::Chart => replied(state, at),
     }
 }

@@ -8,13 +8,12 @@ use crate::answer::end_line;
 use crate::answer::less;
 use crate::answer::put_decimal;
 use crate::calls::call;
-use crate::help::put_usage;
 use answers::calls::Reply;
 use answers::calls::replied;
 use commands::Parsed;
 use commands::Reason;
-use commands::Verb;
 use commands::parse_line;
+use commands::put_usage;
 use rules::State;
 use text::line::Word;
 use text::line::is_blank;
@@ -97,9 +96,9 @@ fn put_word(place: u32, out: &mut [u8], at: usize) -> usize {
     put_decimal(place, out, word)
 }
 
-fn put_words_reason(verb: Verb, out: &mut [u8], at: usize) -> usize {
+fn put_words_reason(place: usize, out: &mut [u8], at: usize) -> usize {
     let expected = put(b"wrong number of words, expected: ", out, at);
-    put_usage(verb, out, expected)
+    put_usage(place, out, expected)
 }
 
 fn put_number_reason(place: u32, out: &mut [u8], at: usize) -> usize {
@@ -116,7 +115,7 @@ fn put_size_reason(place: u32, most: u32, out: &mut [u8], at: usize) -> usize {
 fn put_reason(reason: Reason, out: &mut [u8], at: usize) -> usize {
     match reason {
         Reason::UnknownCommand => put(b"unknown command", out, at),
-        Reason::WordCount(verb) => put_words_reason(verb, out, at),
+        Reason::WordCount(place) => put_words_reason(place, out, at),
         Reason::NotNumber(place) => put_number_reason(place, out, at),
         Reason::TooLarge(place, most) => put_size_reason(place, most, out, at),
         Reason::LineTooLong => put(b"line too long, at most 4096 bytes", out, at),

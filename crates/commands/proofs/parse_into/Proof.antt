@@ -1,12 +1,15 @@
 -- `commands::parse_into` meets its contract. Assumes nothing.
-use Prim.Native.Nat.{_≤_, _<_}
-use mathlib.Core.Path.{sym, ap, _∙_}
+use Prim.Native.Nat.{_-_, _≤_, _<_}
+use mathlib.Core.Path.{_≡_, sym, ap, _∙_}
+use mathlib.Core.List.{_∷_}
 use native.Mathlib.Omega.{arith}
-use lib.ListN.{length}
-use Rattle.text.specs.Words.{wordsOf}
-use Rattle.commands.proofs.Taking.{found-none, found-first, found-within}
-use Rattle.commands.proofs.Parsing.{no-word, unknown, miscounted, counted}
+use lib.ListN.{length, take, drop}
 use borrow.Author.Needs.{needs}
+use Rattle.text.specs.Words.{wordsOf}
+use Rattle.commands.specs.Table.{commands, namedBy}
+use Rattle.commands.proofs.Taking.{found-none, found-first, found-within}
+use Rattle.commands.proofs.Rows.{many, state-numbers}
+use Rattle.commands.proofs.Parsing.{no-word, not-named, by-row, found-past, FoundRow, found-row}
 use Rattle.commands.proofs.parse_into.Statement.{statement}
 use Rattle.commands.proofs.parse_into.Tie as tie
 
@@ -20,79 +23,61 @@ enum-told : tie.Need-enum-told
 enum-told c = search needs
 
 returns : tie.Need-returns
-returns c = no-word (wordsOf (c .before .before .before .before .before .args .line .now)) (c .before .before .before .before .before .args .values .now) (found-none (c .before .before .next-word .ensures) (c .enum-told .given .1))
+returns c = no-word _ _ (found-none (c .before .before .next-word .ensures) (c .enum-told .given .1))
 
 -- a word that was found lies in the line
 within : (c : tie.After-known-told) → (c .before .first .given .0 .0 < c .before .first .given .0 .1 .0) × (c .before .first .given .0 .1 .0 ≤ length (c .before .before .before .before .before .before .args .line .now))
 within c = found-within (c .before .before .before .next-word .ensures) (c .before .first .given .1)
 
-sub-verb-of : tie.Need-sub-verb-of
-sub-verb-of c = omega (arith, within c)
+sub-find : tie.Need-sub-find
+sub-find c = omega (arith, within c)
 
-part-verb-of-start : tie.Need-part-verb-of-start
-part-verb-of-start c = omega (arith, within c)
+part-find-start : tie.Need-part-find-start
+part-find-start c = omega (arith, within c)
 
-part-verb-of-end : tie.Need-part-verb-of-end
-part-verb-of-end c = within c .1
+part-find-end : tie.Need-part-find-end
+part-find-end c = within c .1
 
-verb-of-requires : tie.Need-verb-of-requires
-verb-of-requires c κs = search needs
+find-requires : tie.Need-find-requires
+find-requires c κs = search needs
 
-enum-known-named : tie.Need-enum-known-named
-enum-known-named c = search needs
+-- the line's first word, and the row that it names
+first : (c : tie.After-known-told) →
+    let line = c .before .before .before .before .before .before .args .line .now in
+    let begin = c .before .first .given .0 .0 in
+    let end = c .before .first .given .0 .1 .0 in
+    wordsOf line ≡ take (end - begin) (drop begin line) ∷ wordsOf (drop end line)
+first c = found-first (c .before .before .before .next-word .ensures) (c .before .first .given .1)
 
-enum-told-2 : tie.Need-enum-told-2
-enum-told-2 c = search needs
+row : (c : tie.After-find) → c .find .result .place < length commands →
+    let found = c .before .before in
+    let line = found .before .before .before .before .before .before .args .line .now in
+    let begin = found .before .first .given .0 .0 in
+    let end = found .before .first .given .0 .1 .0 in
+    FoundRow (namedBy (take (end - begin) (drop begin line))) (c .find .result)
+row c h = found-row _ (c .find .result) (c .find .ensures) h
 
 returns-2 : tie.Need-returns-2
 returns-2 c =
-    unknown (wordsOf (c .before .before .before .before .before .before .before .before .before .before .args .line .now)) (c .before .before .before .before .before .before .before .before .before .before .args .values .now) (found-first (c .before .before .before .before .before .before .before .next-word .ensures) (c .before .before .before .before .before .first .given .1)) (sym (c .before .before .verb-of .ensures) ∙ c .enum-told2 .given .1)
+    let after = c .before .before in
+    not-named _ _ (first (after .before .before)) (found-past _ (after .find .result) (after .find .ensures) (omega (arith, many)))
 
-count-words-requires : tie.Need-count-words-requires
-count-words-requires c κs = search needs
-
-parameters-requires : tie.Need-parameters-requires
-parameters-requires c κs = search needs
-
-add-if1 : tie.Need-add-if1
-add-if1 c = search needs
-
-returns-3 : tie.Need-returns-3
-returns-3 c =
-    let first = found-first (c .before .before .before .before .before .before .before .before .before .before .before .next-word .ensures) (c .before .before .before .before .before .before .before .before .before .first .given .1) in
-    miscounted (wordsOf (c .before .before .before .before .before .before .before .before .before .before .before .before .before .before .args .line .now)) (c .before .before .before .before .before .before .before .before .before .before .before .before .before .before .args .values .now) first _ (sym (c .before .before .before .before .before .before .verb-of .ensures) ∙ c .before .before .before .before .named .given .1)
-    (λ e. c .if1 .taken (omega (arith, e, ap length first)))
-
-take-numbers-requires : tie.Need-take-numbers-requires
-take-numbers-requires c κs =
-    let first = found-first (c .before .before .before .before .before .before .before .before .before .before .before .before .next-word .ensures) (c .before .before .before .before .before .before .before .before .before .before .first .given .1) in
-    (c .before .before .before .before .before .before .before .before .before .before .before .before .before .before .before .pre, omega (arith, ap length first))
-
-enum-told-3 : tie.Need-enum-told-3
-enum-told-3 c = search needs
-
-enum-known-numbers : tie.Need-enum-known-numbers
-enum-known-numbers c = search needs
+parse-row-requires : tie.Need-parse-row-requires
+parse-row-requires c κs =
+    let after = c .before .before .before in
+    let f = row after (omega (arith, many)) in (
+      (c .before .before .before .before .before .before .before .before .before .before .before .pre, omega (arith, f .is .few, state-numbers), ap length (f .is .limits) ∙ sym (f .is .count)),
+      omega (arith, ap length (first (after .before .before))),
+    )
 
 same-length : tie.Need-same-length
 same-length c = search needs
 
-returns-4 : tie.Need-returns-4
-returns-4 c =
-    let first = found-first (c .before .before .before .before .before .before .before .before .before .before .before .before .before .before .before .before .before .next-word .ensures) (c .before .before .before .before .before .before .before .before .before .before .before .before .before .before .before .first .given .1) in
-    let taken = c .before .before .before .before .take-numbers in
-    counted (wordsOf (c .before .before .before .before .before .before .before .before .before .before .before .before .before .before .before .before .before .before .before .before .args .line .now)) (c .before .before .before .before .before .before .before .before .before .before .before .before .before .before .before .before .before .before .before .before .args .values .now) first _ (sym (c .before .before .before .before .before .before .before .before .before .before .before .before .verb-of .ensures) ∙ c .before .before .before .before .before .before .before .before .before .before .named .given .1)
-    (omega (arith, ap length first, c .before .before .before .before .before .before .if1 .left)) (rw (sym (taken .ensures .0) ∙ c .enum-told3 .given .1)) (taken .ensures .1)
-
-same-length-2 : tie.Need-same-length-2
-same-length-2 c = search needs
-
-returns-5 : tie.Need-returns-5
-returns-5 c =
-    let first = found-first (c .before .before .before .before .before .before .before .before .before .before .before .before .before .before .before .before .before .before .next-word .ensures) (c .before .before .before .before .before .before .before .before .before .before .before .before .before .before .before .before .first .given .1) in
-    let taken = c .before .before .before .before .before .take-numbers in
-    counted (wordsOf (c .before .before .before .before .before .before .before .before .before .before .before .before .before .before .before .before .before .before .before .before .before .args .line .now)) (c .before .before .before .before .before .before .before .before .before .before .before .before .before .before .before .before .before .before .before .before .before .args .values .now) first _ (sym (c .before .before .before .before .before .before .before .before .before .before .before .before .before .verb-of .ensures) ∙ c .before .before .before .before .before .before .before .before .before .before .before .named .given .1)
-    (omega (arith, ap length first, c .before .before .before .before .before .before .before .if1 .left)) (rw (sym (taken .ensures .0) ∙ c .before .numbers .given .1)) (taken .ensures .1)
+returns-3 : tie.Need-returns-3
+returns-3 c =
+    let call = c .before .before in
+    let after = call .before .before .before .before in
+    by-row _ _ (first (after .before .before)) (row after (omega (arith, many))) (call .parse-row .ensures)
 
 pub parse-into-spec : {M : Type 1} → statement M
 parse-into-spec =
@@ -102,21 +87,11 @@ parse-into-spec =
     enum-known-first
     enum-told
     returns
-    sub-verb-of
-    part-verb-of-start
-    part-verb-of-end
-    verb-of-requires
-    enum-known-named
-    enum-told-2
+    sub-find
+    part-find-start
+    part-find-end
+    find-requires
     returns-2
-    count-words-requires
-    parameters-requires
-    add-if1
-    returns-3
-    take-numbers-requires
-    enum-told-3
-    enum-known-numbers
+    parse-row-requires
     same-length
-    returns-4
-    same-length-2
-    returns-5)
+    returns-3)

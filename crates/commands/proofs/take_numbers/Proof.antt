@@ -1,97 +1,101 @@
 -- `commands::take_numbers` meets its contract: what the words still to come make of the values stays the same. Assumes nothing.
-use Prim.Native.Nat.{_+_, _-_, _≤_}
+use Prim.Native.Nat.{_+_, _-_, _≤_, _<_}
 use mathlib.Core.Path.{_≡_, refl, sym, ap, _∙_}
 use native.Mathlib.Omega.{arith}
-use lib.ListN.{length, drop, length-set}
+use lib.ListN.{length, take, drop, length-set}
 use lib.Seq.{sets}
 use borrow.Author.Needs.{needs}
+use Rattle.image.specs.Image.{numberCount}
 use Rattle.text.specs.Words.{wordsOf}
-use Rattle.commands.specs.Commands.{takenOf, numbersOf}
-use Rattle.commands.proofs.Taking.{none-taken, not-taken, large-taken, above-taken, value-taken, none-stored, one-stored, no-words}
+use Rattle.commands.specs.Commands.{valueOf, takenOf, numbersOf}
+use Rattle.commands.specs.Steps.{limitsOf}
+use Rattle.commands.proofs.Taking.{found-none, found-first, found-within, none-left, one-refused, one-taken, no-words}
 use Rattle.commands.proofs.take_numbers.Statement.{statement}
 use Rattle.commands.proofs.take_numbers.Tie as tie
 
 abbrev Inv-loop : tie.InvT-loop
-Inv-loop line from verb values₀ at₀ i₀ values at i =
-    (length values ≡ 68) × (length (wordsOf (drop at line)) + i ≤ 68)
-    × (takenOf verb i (wordsOf (drop at line)) ≡ takenOf verb 0 (wordsOf (drop from line)))
-    × (sets values i (numbersOf verb i (wordsOf (drop at line))) ≡ sets values₀ 0 (numbersOf verb 0 (wordsOf (drop from line))))
+Inv-loop line from command values₀ at₀ i₀ values at i =
+    (length values ≡ numberCount) × (length (wordsOf (drop at line)) + i ≡ command .count)
+    × (takenOf (limitsOf command) i (wordsOf (drop at line)) ≡ takenOf (limitsOf command) 0 (wordsOf (drop from line)))
+    × (sets values i (numbersOf (limitsOf command) i (wordsOf (drop at line))) ≡ sets values₀ 0 (numbersOf (limitsOf command) 0 (wordsOf (drop from line))))
 
 abbrev μ-loop : tie.MeasureT-loop
-μ-loop line from verb values₀ at₀ i₀ values at i = 68 - i
+μ-loop line from command values₀ at₀ i₀ values at i = command .count - i
 
 loop-holds : tie.Need-loop-holds Inv-loop μ-loop
-loop-holds c = (c .before .before .pre .0, omega arith, refl, refl)
+loop-holds c = (c .before .before .pre .0 .0, omega arith, refl, refl)
 
-next-number-requires : tie.Need-next-number-requires Inv-loop μ-loop
-next-number-requires c κs = search needs
-
-enum-told : tie.Need-enum-told Inv-loop μ-loop
-enum-told c = search needs
-
-same-length : tie.Need-same-length Inv-loop μ-loop
-same-length c = c .before .before .before .before .loop .inv .0 ∙ sym (c .before .before .before .before .before .before .before .pre .0)
-
-returns : tie.Need-returns Inv-loop μ-loop
-returns c =
-    let loop = c .before .before .before .before .loop in
-    let taken = none-taken (c .before .before .before .before .before .before .before .args .verb) (loop .i) (wordsOf (drop (loop .at) (c .before .before .before .before .before .before .before .args .line .now))) (rw (c .enum-told .given .1) at (c .before .before .next-number .ensures)) in
-    (taken .0 ∙ loop .inv .2, none-stored (loop .values) (loop .i) (loop .inv .3) (taken .1))
-
-enum-told-2 : tie.Need-enum-told-2 Inv-loop μ-loop
-enum-told-2 c = search needs
-
-cast-t12 : tie.Need-cast-t12 Inv-loop μ-loop
-cast-t12 c = search needs
-
-add-t13 : tie.Need-add-t13 Inv-loop μ-loop
-add-t13 c = search needs
-
-same-length-2 : tie.Need-same-length-2 Inv-loop μ-loop
-same-length-2 c = c .before .before .before .before .loop .inv .0 ∙ sym (c .before .before .before .before .before .before .before .pre .0)
-
-returns-2 : tie.Need-returns-2 Inv-loop μ-loop
-returns-2 c =
-    let loop = c .before .before .before .before .loop in
-    let read = rw (c .enum-told2 .given .1) at (c .before .before .next-number .ensures) in
-    let taken = not-taken (c .before .before .before .before .before .before .before .args .verb) (loop .i) (wordsOf (drop (loop .at) (c .before .before .before .before .before .before .before .args .line .now))) (read .2) (read .3) in
-    (taken .0 ∙ loop .inv .2, none-stored (loop .values) (loop .i) (loop .inv .3) (taken .1))
-
-enum-told-3 : tie.Need-enum-told-3 Inv-loop μ-loop
-enum-told-3 c = search needs
-
-too-large-requires : tie.Need-too-large-requires Inv-loop μ-loop
-too-large-requires c κs = search needs
-
-same-length-3 : tie.Need-same-length-3 Inv-loop μ-loop
-same-length-3 c = c .before .before .before .before .before .loop .inv .0 ∙ sym (c .before .before .before .before .before .before .before .before .pre .0)
-
-returns-3 : tie.Need-returns-3 Inv-loop μ-loop
-returns-3 c =
-    let loop = c .before .before .before .before .before .loop in
-    let read = rw (c .before .enum-told3 .given .1) at (c .before .before .before .next-number .ensures) in
-    let taken = large-taken (c .before .before .before .before .before .before .before .before .args .verb) (loop .i) (wordsOf (drop (loop .at) (c .before .before .before .before .before .before .before .before .args .line .now))) (read .2) (read .3) in
-    (c .too-large .ensures ∙ taken .0 ∙ loop .inv .2, none-stored (loop .values) (loop .i) (loop .inv .3) (taken .1))
+next-word-requires : tie.Need-next-word-requires Inv-loop μ-loop
+next-word-requires c κs = search needs
 
 enum-known-next : tie.Need-enum-known-next Inv-loop μ-loop
 enum-known-next c = search needs
 
-most-requires : tie.Need-most-requires Inv-loop μ-loop
-most-requires c κs = search needs
+enum-told : tie.Need-enum-told Inv-loop μ-loop
+enum-told c = search needs
 
-too-large-requires-2 : tie.Need-too-large-requires-2 Inv-loop μ-loop
-too-large-requires-2 c κs = search needs
+-- the turn of the loop that a word was found in
+abbrev turn : tie.After-known-told Inv-loop μ-loop → tie.At-loop Inv-loop μ-loop
+turn c = c .before .before .before .before .before .before
 
-same-length-4 : tie.Need-same-length-4 Inv-loop μ-loop
-same-length-4 c = c .before .before .before .before .before .before .before .before .loop .inv .0 ∙ sym (c .before .before .before .before .before .before .before .before .before .before .before .pre .0)
+same-length : tie.Need-same-length Inv-loop μ-loop
+same-length c = search needs
 
-returns-4 : tie.Need-returns-4 Inv-loop μ-loop
-returns-4 c =
-    let loop = c .before .before .before .before .before .before .before .before .loop in
-    let read = rw (c .before .before .before .before .next .given .1) at (c .before .before .before .before .before .before .next-number .ensures) in
-    let above = rw (c .before .before .most .ensures) at (c .before .if1 .taken) in
-    let taken = above-taken (c .before .before .before .before .before .before .before .before .before .before .before .args .verb) (loop .i) (wordsOf (drop (loop .at) (c .before .before .before .before .before .before .before .before .before .before .before .args .line .now))) (read .1) (read .2) above in
-    (c .too-large2 .ensures ∙ taken .0 ∙ loop .inv .2, none-stored (loop .values) (loop .i) (loop .inv .3) (taken .1))
+returns : tie.Need-returns Inv-loop μ-loop
+returns c =
+    let at = c .before .before .before .before .before in
+    none-left (limitsOf (at .before .before .before .args .command)) (at .loop .i) (at .loop .values) (at .loop .inv .2) (at .loop .inv .3) (found-none (c .before .before .next-word .ensures) (c .enum-told .given .1))
+
+within : (c : tie.After-known-told Inv-loop μ-loop) → (c .before .next .given .0 .0 < c .before .next .given .0 .1 .0) × (c .before .next .given .0 .1 .0 ≤ length (turn c .before .before .before .args .line .now))
+within c = found-within (c .before .before .before .next-word .ensures) (c .before .next .given .1)
+
+sub-limited : tie.Need-sub-limited Inv-loop μ-loop
+sub-limited c = omega (arith, within c)
+
+part-limited-start : tie.Need-part-limited-start Inv-loop μ-loop
+part-limited-start c = omega (arith, within c)
+
+part-limited-end : tie.Need-part-limited-end Inv-loop μ-loop
+part-limited-end c = within c .1
+
+limit-requires : tie.Need-limit-requires Inv-loop μ-loop
+limit-requires c κs = search needs
+
+cast-limited : tie.Need-cast-limited Inv-loop μ-loop
+cast-limited c = search needs
+
+add-limited : tie.Need-add-limited Inv-loop μ-loop
+add-limited c = search needs
+
+-- what the word is as the next number
+heard : (c : tie.After-limited Inv-loop μ-loop) →
+    let found = c .before .before .before in
+    let start = turn found .before .before .before in
+    let begin = found .before .next .given .0 .0 in
+    let end = found .before .next .given .0 .1 .0 in
+    valueOf (limitsOf (start .args .command)) (turn found .loop .i) (take (end - begin) (drop begin (start .args .line .now))) ≡ c .limited .result
+unfolding valueOf
+heard c = rw (← c .before .limit .ensures) (sym (c .limited .ensures))
+
+limited-requires : tie.Need-limited-requires Inv-loop μ-loop
+limited-requires c κs = search needs
+
+enum-known-value : tie.Need-enum-known-value Inv-loop μ-loop
+enum-known-value c = search needs
+
+same-length-2 : tie.Need-same-length-2 Inv-loop μ-loop
+same-length-2 c = search needs
+
+returns-2 : tie.Need-returns-2 Inv-loop μ-loop
+returns-2 c =
+    let limited = c .before .before .before in
+    let found = limited .before .before .before in
+    let at = turn found in
+    one-refused (limitsOf (at .before .before .before .args .command)) (at .loop .i) (at .loop .values) (at .loop .inv .2) (at .loop .inv .3)
+    (found-first (found .before .before .before .next-word .ensures) (found .before .next .given .1)) (heard limited ∙ c .before .value .given .1)
+
+enum-known-value-2 : tie.Need-enum-known-value-2 Inv-loop μ-loop
+enum-known-value-2 c = search needs
 
 mul-values : tie.Need-mul-values Inv-loop μ-loop
 mul-values c = search needs
@@ -107,20 +111,20 @@ loop-less c = search needs
 
 loop-again : tie.Need-loop-again Inv-loop μ-loop
 loop-again c =
-    let loop = c .before .before .before .before .before .before .before .loop in
-    let read = rw (c .before .before .before .next .given .1) at (c .before .before .before .before .before .next-number .ensures) in
-    let below = rw (c .before .most .ensures) at (c .if1 .left) in
-    let taken = value-taken (c .before .before .before .before .before .before .before .before .before .before .args .verb) (loop .i) (wordsOf (drop (loop .at) (c .before .before .before .before .before .before .before .before .before .before .args .line .now))) (read .1) (read .2) below in
-    (rw length-set (loop .inv .0), omega (arith, ap length (read .1)), sym (taken .0) ∙ loop .inv .2, one-stored (loop .values) (loop .i) (loop .inv .3) (taken .1))
+    let limited = c .before .before .before in
+    let found = limited .before .before .before in
+    let at = turn found in
+    let first = found-first (found .before .before .before .next-word .ensures) (found .before .next .given .1) in
+    let taken = one-taken (limitsOf (at .before .before .before .args .command)) (at .loop .i) (at .loop .values) (at .loop .inv .2) (at .loop .inv .3) first (heard limited ∙ c .before .value2 .given .1) in
+    (rw length-set (at .loop .inv .0), omega (arith, ap length first), taken .0, taken .1)
 
-same-length-5 : tie.Need-same-length-5 Inv-loop μ-loop
-same-length-5 c = c .before .loop .inv .0 ∙ sym (c .before .before .before .before .pre .0)
+same-length-3 : tie.Need-same-length-3 Inv-loop μ-loop
+same-length-3 c = search needs
 
-returns-5 : tie.Need-returns-5 Inv-loop μ-loop
-returns-5 c =
-    let loop = c .before .loop in
-    let taken = none-taken (c .before .before .before .before .args .verb) (loop .i) (wordsOf (drop (loop .at) (c .before .before .before .before .args .line .now))) (no-words _ (omega arith)) in
-    (taken .0 ∙ loop .inv .2, none-stored (loop .values) (loop .i) (loop .inv .3) (taken .1))
+returns-3 : tie.Need-returns-3 Inv-loop μ-loop
+returns-3 c =
+    let at = c .before .before in
+    none-left (limitsOf (at .before .before .before .args .command)) (at .loop .i) (at .loop .values) (at .loop .inv .2) (at .loop .inv .3) (no-words _ (omega arith))
 
 pub take-numbers-spec : {M : Type 1} → statement M
 take-numbers-spec =
@@ -129,28 +133,26 @@ take-numbers-spec =
     Inv-loop
     μ-loop
     loop-holds
-    next-number-requires
+    next-word-requires
+    enum-known-next
     enum-told
     same-length
     returns
-    enum-told-2
-    cast-t12
-    add-t13
+    sub-limited
+    part-limited-start
+    part-limited-end
+    limit-requires
+    cast-limited
+    add-limited
+    limited-requires
+    enum-known-value
     same-length-2
     returns-2
-    enum-told-3
-    too-large-requires
-    same-length-3
-    returns-3
-    enum-known-next
-    most-requires
-    too-large-requires-2
-    same-length-4
-    returns-4
+    enum-known-value-2
     mul-values
     slice-write-values
     add-i
     loop-less
     loop-again
-    same-length-5
-    returns-5)
+    same-length-3
+    returns-3)

@@ -87,6 +87,12 @@ put-help-requires c κs = search needs
 replied-requires-2 : tie.Need-replied-requires-2
 replied-requires-2 c κs = search needs
 
+enum-told-14 : tie.Need-enum-told-14
+enum-told-14 c = search needs
+
+replied-requires-3 : tie.Need-replied-requires-3
+replied-requires-3 c κs = search needs
+
 same-length : tie.Need-same-length
 same-length c = search needs
 
@@ -165,6 +171,9 @@ same-length-13 c = search needs
 returns-13 : tie.Need-returns-13
 returns-13 c = rw (c .before .before .before .before .before .enum-told13 .given .1) (c .replied2 .ensures .0)
 
+returns-14 : tie.Need-returns-14
+returns-14 c = rw (c .before .enum-told14 .given .1) (c .replied3 .ensures .0)
+
 pub call-spec : {M : Type 1} → statement M
 call-spec =
     tie.close
@@ -197,6 +206,8 @@ call-spec =
     enum-told-13
     put-help-requires
     replied-requires-2
+    enum-told-14
+    replied-requires-3
     same-length
     returns
     same-length-2
@@ -222,4 +233,5 @@ call-spec =
     same-length-12
     returns-12
     same-length-13
-    returns-13)
+    returns-13
+    returns-14)

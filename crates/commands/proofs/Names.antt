@@ -1,29 +1,26 @@
--- Words compared, and a verb found among verbs.
-use Prim.Native.Nat.{ℕ}
+-- Words compared, and a row found among rows.
+use Prim.Native.Nat.{ℕ, _+_, suc, _<_}
 use mathlib.Core.Path.{_≡_, refl, sym, _∙_}
 use mathlib.Core.Bool.{Bool, true, false, _&&_}
 use mathlib.Core.List.{List, [], _∷_}
 use lib.Dec.{eqb}
 use borrow.Author.Tests.{eq-eqb, eqb-true}
-use Rattle.commands.specs.declared.Verb.{Verb}
-use Rattle.commands.specs.declared.Named.{Named}
-use Rattle.commands.specs.declared.Named.the-variants.{Known, Unknown}
-use Rattle.commands.specs.Commands.{sameBytes, nameOf, verbAmong}
+use Rattle.commands.specs.Table.{Row, nameOf, sameBytes, Named, known, unknown, namedAmong}
 
 same-self : (word : List ℕ) → sameBytes word word ≡ true
 unfolding sameBytes
 same-self [] = refl
 same-self (byte ∷ word) = rw (eq-eqb byte byte refl) (same-self word)
 
-and-left : (a b : Bool) → (a && b) ≡ true → a ≡ true
+pub and-left : (a b : Bool) → (a && b) ≡ true → a ≡ true
 and-left true b e = refl
 and-left false b e = e
 
-and-right : (a b : Bool) → (a && b) ≡ true → b ≡ true
+pub and-right : (a b : Bool) → (a && b) ≡ true → b ≡ true
 and-right true b e = e
 and-right false b e = cc
 
-pub same-equal : (a b : List ℕ) → sameBytes a b ≡ true → a ≡ b
+same-equal : (a b : List ℕ) → sameBytes a b ≡ true → a ≡ b
 unfolding sameBytes
 same-equal [] [] e = refl
 same-equal [] (y ∷ b) e = cc
@@ -41,16 +38,3 @@ decides false a b d = go (sameBytes a b) refl
     go : (t : Bool) → sameBytes a b ≡ t → false ≡ t
     go false e = refl
     go true e = d .1 (same-equal a b e)
-
-pub verb-none : (word : List ℕ) → Unknown ≡ verbAmong [] word
-unfolding verbAmong
-verb-none word = refl
-
-module _ (verb : Verb) (verbs : List Verb) (word : List ℕ) {r : Bool} (tested : r ≡ sameBytes word (nameOf verb)) where
-  pub verb-here : r ≡ true → Known verb ≡ verbAmong (verb ∷ verbs) word
-  unfolding verbAmong
-  verb-here t = rw (sym tested ∙ t)
-
-  pub verb-later : {named : Named} → r ≡ false → named ≡ verbAmong verbs word → named ≡ verbAmong (verb ∷ verbs) word
-  unfolding verbAmong
-  verb-later f e = rw (sym tested ∙ f) e

@@ -1,0 +1,98 @@
+-- The source's rows are the table's, and a search goes through them one by one.
+use Prim.Native.Nat.{ℕ, zero, suc, _+_, _≤_, _<_}
+use mathlib.Core.Path.{_≡_, refl, sym, ap, _∙_}
+use mathlib.Core.Bool.{Bool, true, false, _&&_}
+use mathlib.Core.List.{List, [], _∷_, map}
+use native.Mathlib.Omega.{arith}
+use native.Mathlib.Numerals.{add-one}
+use lib.ListN.{length, getD, take, drop, drop-of-length-le, List·getD-eq-default, length-map}
+use lib.Dec.{leb}
+use borrow.Author.Tests.{leb-true}
+use Rattle.text.specs.Put.{Put}
+use Rattle.commands.specs.declared.table.Command.{Command}
+use Rattle.commands.specs.declared.table.Found.{Found}
+use Rattle.image.specs.Image.{channelsLimits, limits as stateLimits, numberCount}
+use Rattle.commands.specs.Table.{Row, commands, nameOf, sameBytes, Named, known, unknown, namedAmong, usageAt}
+use Rattle.commands.specs.Steps.{Is, described, asked, Describe, FoundAs}
+use Rattle.commands.proofs.Names.{and-left, and-right}
+
+-- the row at an index, in both
+pub record RowAt (command : Command) (rows : List Row) (i : ℕ) : Type 0 where
+  pub row : Row
+  pub split : drop i rows ≡ row ∷ drop (suc i) rows
+  pub told : getD (map (λ r. r .usage) rows) i [] ≡ row .usage
+  pub same : described command ≡ asked row
+
+pub row-at : (source : List Command) (rows : List Row) → Describe source rows → (i : ℕ) → i < length rows → (d : Command) → RowAt (getD source i d) rows i
+row-at [] [] e i h d = absurd (omega arith)
+row-at [] (r ∷ rows) e i h d = absurd (omega (arith, ap length e))
+row-at (c ∷ source) [] e i h d = absurd (omega arith)
+row-at (c ∷ source) (r ∷ rows) e zero h d = record { row = r; split = refl; told = refl; same = cc }
+row-at (c ∷ source) (r ∷ rows) e (suc i) h d =
+    let at = row-at source rows (cc) i (omega arith) d in
+    record { row = at .row; split = at .split; told = at .told; same = at .same }
+
+module _ {command : Command} {rows : List Row} {i : ℕ} (at : RowAt command rows i) where
+  pub name-within : command .name ≤ length (command .usage)
+  name-within = leb-true _ _ (and-left _ _ (ap (λ d. d .within) (at .same)))
+
+  others-within : (leb (command .long) (length (command .usage)) && leb (command .count) (length stateLimits)) ≡ true
+  others-within = and-right (leb (command .name) (length (command .usage))) _ (ap (λ d. d .within) (at .same))
+
+  pub long-within : command .long ≤ length (command .usage)
+  long-within = leb-true _ _ (and-left _ _ others-within)
+
+  name-is : take (command .name) (command .usage) ≡ nameOf (at .row)
+  name-is = ap (λ d. d .name) (at .same)
+
+  is : Is command (at .row)
+  is =
+      record {
+        verb = ap (λ d. d .verb) (at .same);
+        limits = ap (λ d. d .limits) (at .same);
+        count = ap (λ d. d .count) (at .same);
+        few = leb-true _ _ (and-right (leb (command .long) (length (command .usage))) _ others-within);
+      }
+
+  -- the row is the one that a word names, or the search goes on after it
+  module _ (word : List ℕ) {named : Named} (all : namedAmong (drop i rows) i word ≡ named) {r : Bool}
+      (tested : r ≡ sameBytes word (take (command .name) (command .usage))) where
+    test-is : sameBytes word (nameOf (at .row)) ≡ r
+    test-is = sym (ap (sameBytes word) name-is) ∙ sym tested
+
+    pub named-here : r ≡ true → named ≡ known i (at .row)
+    unfolding namedAmong
+    named-here t = sym all ∙ rw (at .split, test-is ∙ t)
+
+    pub named-later : r ≡ false → namedAmong (drop (i + 1) rows) (i + 1) word ≡ named
+    unfolding namedAmong
+    named-later f = rw add-one (rw (at .split, test-is ∙ f, add-one) at all)
+
+  pub found-here : (found : Found) {named : Named} → found .row ≡ command → named ≡ known i (at .row) → found .place ≡ i → i < length commands → FoundAs named found
+  found-here found same e p h = rw (e, same) (p, h, is)
+
+pub named-nowhere : (rows : List Row) (i : ℕ) (word : List ℕ) {named : Named} → namedAmong (drop i rows) i word ≡ named → length rows ≤ i → named ≡ unknown
+unfolding namedAmong
+named-nowhere rows i word all past = sym all ∙ rw (drop-of-length-le rows past)
+
+pub found-none : (found : Found) {named : Named} → named ≡ unknown → length commands ≤ found .place → FoundAs named found
+found-none found e h = rw e h
+
+-- how the command at a place is written
+pub usage-put : {command : Command} {place at : ℕ} {before after : List ℕ} {next : ℕ} → RowAt command commands place →
+    Put (take (command .long) (command .usage)) at before after next → Put (usageAt place) at before after next
+unfolding usageAt
+usage-put row put = rw (row .told, ← ap (λ d. d .usage) (row .same)) put
+
+pub usage-past : (place : ℕ) → length commands ≤ place → usageAt place ≡ []
+unfolding usageAt
+usage-past place h = List·getD-eq-default (map (λ row. row .usage) commands) [] {n = place} (rw length-map h)
+
+-- as many rows, and numbers of a state, as the source has
+pub many : length commands ≡ 14
+unfolding commands
+many = refl
+
+pub state-numbers : length stateLimits ≡ numberCount
+unfolding stateLimits channelsLimits
+state-numbers = refl
