@@ -6,7 +6,9 @@ use device::duty::output_duty;
 use device::valid::valid;
 use form::put_either;
 use form::put_form;
+use form::put_seconds;
 use form::put_text;
+use form::put_valid;
 use registers::fields::range_code;
 use registers::fields::tachometer_enabled;
 use registers::fields::watchdog_code;
@@ -15,28 +17,6 @@ use rules::Conditions;
 use rules::STATE_NOT_VALID;
 use rules::Speed;
 use rules::State;
-use text::fraction::put_512ths;
-
-pub fn put_valid(valid: bool, out: &mut [u8], at: usize) -> usize
-    ensures { λ r. ⌜ Frame 44 at (now (out .entry)) (now (out .exit)) r ⌝ }
-{
-    put_either(
-        valid,
-        b"state     valid\n",
-        b"state     not valid: calls refuse it with 1\n",
-        out,
-        at,
-    )
-}
-
-// A number of ticks in seconds, after ten bytes that name it.
-pub fn put_seconds(name: &[u8; 10], ticks: u32, out: &mut [u8], at: usize) -> usize
-    ensures { λ r. ⌜ Frame 33 at (now (out .entry)) (now (out .exit)) r ⌝ }
-{
-    let begin = put_text(name, out, at);
-    let seconds = put_512ths(ticks as f64 / 512.0, out, begin);
-    put_text(b" s\n", out, seconds)
-}
 
 fn put_watchdog(state: State, out: &mut [u8], at: usize) -> usize
     ensures { λ r. ⌜ Frame 52 at (now (out .entry)) (now (out .exit)) r ⌝ }

@@ -3,6 +3,7 @@ ghost use Prim.Native.Nat.{_+_, _*_, _≤_, max};
 ghost use lib.ListN.{length};
 ghost use Rattle.text.specs.Frame.{Frame};
 use text::decimal::put_column;
+use text::fraction::put_512ths;
 use text::put::put;
 
 pub fn put_text(bytes: &[u8], out: &mut [u8], at: usize) -> usize
@@ -53,4 +54,25 @@ pub fn put_form(form: &[u8], numbers: &[u32], out: &mut [u8], at: usize) -> usiz
         i += 1;
     }
     put(&form[from..], out, next)
+}
+
+pub fn put_valid(valid: bool, out: &mut [u8], at: usize) -> usize
+    ensures { λ r. ⌜ Frame 44 at (now (out .entry)) (now (out .exit)) r ⌝ }
+{
+    put_either(
+        valid,
+        b"state     valid\n",
+        b"state     not valid: calls refuse it with 1\n",
+        out,
+        at,
+    )
+}
+
+// A number of ticks in seconds, after ten bytes that name it.
+pub fn put_seconds(name: &[u8; 10], ticks: u32, out: &mut [u8], at: usize) -> usize
+    ensures { λ r. ⌜ Frame 33 at (now (out .entry)) (now (out .exit)) r ⌝ }
+{
+    let begin = put_text(name, out, at);
+    let seconds = put_512ths(ticks as f64 / 512.0, out, begin);
+    put_text(b" s\n", out, seconds)
 }

@@ -1,11 +1,11 @@
--- `show::put_seconds` meets its contract. Assumes nothing.
+-- `put_seconds` meets its contract. Assumes nothing.
 use mathlib.Core.Path.{refl}
 use native.Mathlib.Omega.{arith}
 use Rattle.text.proofs.Frames.{put-frame, frame-looser, frames-3}
 use Rattle.text.proofs.Lengths.{nine-length}
 use borrow.Author.Needs.{needs}
-use Rattle.display.proofs.show.put_seconds.Statement.{statement}
-use Rattle.display.proofs.show.put_seconds.Tie as tie
+use Rattle.form.proofs.put_seconds.Statement.{statement}
+use Rattle.form.proofs.put_seconds.Tie as tie
 
 put-text-requires : tie.Need-put-text-requires
 put-text-requires c κs = tt
