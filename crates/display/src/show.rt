@@ -18,19 +18,18 @@ use rules::STATE_NOT_VALID;
 use rules::Speed;
 use rules::State;
 
-fn put_watchdog(state: State, out: &mut [u8], at: usize) -> usize
+fn put_watchdog(limit: u16, expired: bool, idle: u16, out: &mut [u8], at: usize) -> usize
     ensures { λ r. ⌜ Frame 52 at (now (out .entry)) (now (out .exit)) r ⌝ }
 {
-    let limit = watchdog_limit(watchdog_code(state.registers.control));
     if limit == 0 {
         return put_text(b"watchdog  off", out, at);
     }
-    if state.timer.expired {
+    if expired {
         return put_text(b"watchdog  expired", out, at);
     }
     put_form(
         b"watchdog  counting, # of # ticks",
-        &[state.timer.idle as u32, limit as u32],
+        &[idle as u32, limit as u32],
         out,
         at,
     )
@@ -40,11 +39,13 @@ fn put_watchdog(state: State, out: &mut [u8], at: usize) -> usize
 fn put_timer(state: State, out: &mut [u8], at: usize) -> usize
     ensures { λ r. ⌜ Frame 148 at (now (out .entry)) (now (out .exit)) r ⌝ }
 {
+    let timer = state.timer;
+    let limit = watchdog_limit(watchdog_code(state.registers.control));
     let valid = put_valid(valid(state), out, at);
-    let clock = put_seconds(b"clock     ", state.timer.clock, out, valid);
-    let watchdog = put_watchdog(state, out, clock);
+    let clock = put_seconds(b"clock     ", timer.clock, out, valid);
+    let watchdog = put_watchdog(limit, timer.expired, timer.idle, out, clock);
     put_either(
-        state.timer.status,
+        timer.status,
         b", status bit set\n",
         b", status bit clear\n",
         out,
@@ -52,23 +53,29 @@ fn put_timer(state: State, out: &mut [u8], at: usize) -> usize
     )
 }
 
-fn put_fan_fail(state: State, out: &mut [u8], at: usize) -> usize
+fn put_fan_fail(
+    known: bool,
+    asserted: bool,
+    failed: u32,
+    lowest: u32,
+    out: &mut [u8],
+    at: usize,
+) -> usize
     ensures { λ r. ⌜ Frame 70 at (now (out .entry)) (now (out .exit)) r ⌝ }
 {
-    let answer = fan_fail::fan_fail(state);
-    if answer.refusal == STATE_NOT_VALID {
+    if !known {
         return put_text(
             b"FAN_FAIL  not known: the query refuses the state\n",
             out,
             at,
         );
     }
-    if !answer.asserted {
+    if !asserted {
         return put_text(b"FAN_FAIL  not asserted\n", out, at);
     }
     put_form(
         b"FAN_FAIL  asserted, # failed, lowest is channel #\n",
-        &[answer.failed, answer.lowest],
+        &[failed, lowest],
         out,
         at,
     )
@@ -86,20 +93,29 @@ fn put_pins(state: State, standby: bool, out: &mut [u8], at: usize) -> usize
         out,
         begin,
     );
-    put_fan_fail(state, out, pin)
+    let answer = fan_fail::fan_fail(state);
+    let known = answer.refusal != STATE_NOT_VALID;
+    put_fan_fail(
+        known,
+        answer.asserted,
+        answer.failed,
+        answer.lowest,
+        out,
+        pin,
+    )
 }
 
 // Why a count gives no speed.
-fn put_no_speed(channel: Channel, out: &mut [u8], at: usize) -> usize
+fn put_no_speed(enabled: bool, count: u16, out: &mut [u8], at: usize) -> usize
     ensures { λ r. ⌜ Frame 10 at (now (out .entry)) (now (out .exit)) r ⌝ }
 {
-    if !tachometer_enabled(channel.config) {
+    if !enabled {
         return put_text(b"  tach off", out, at);
     }
-    if channel.count == 0 {
+    if count == 0 {
         return put_text(b"   count 0", out, at);
     }
-    put_either(channel.count == 2047, b"   stopped", b" bad count", out, at)
+    put_either(count == 2047, b"   stopped", b" bad count", out, at)
 }
 
 // The speed of a fan that gives two pulses a revolution. Bits 7:5 of the dynamics byte are the range code.
@@ -109,7 +125,7 @@ fn put_speed(channel: Channel, out: &mut [u8], at: usize) -> usize
     let speed = speed::speed(range_code(channel.dynamics) as u32, 2, channel.count as u32);
     match speed {
         Speed::Rpm(rpm) => put_form(b"  ########", &[rpm], out, at),
-        Speed::Refused => put_no_speed(channel, out, at),
+        Speed::Refused => put_no_speed(tachometer_enabled(channel.config), channel.count, out, at),
     }
 }
 

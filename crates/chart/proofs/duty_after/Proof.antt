@@ -21,7 +21,7 @@ output-duty-requires : tie.Need-output-duty-requires
 output-duty-requires c κs = tt
 
 returns : tie.Need-returns
-returns c = duty-told _ _ _ (c .before .before .before .before .pass-ticks .ensures .0) (c .before .conditions .ensures) (c .output-duty .ensures)
+returns c = duty-told _ _ _ (c .before .before .before .before .pass-ticks .ensures) (c .before .conditions .ensures) (c .output-duty .ensures)
 
 pub duty-after-spec : {M : Type 1} → statement M
 duty-after-spec =

@@ -3,7 +3,6 @@ use mathlib.Core.Path.{refl}
 use native.Mathlib.Omega.{arith}
 use Rattle.text.proofs.Frames.{put-frame, frame-looser, frames-3}
 use Rattle.chart.proofs.Columns.{columns-length}
-use borrow.Author.Needs.{needs}
 use Rattle.chart.proofs.put_line.Statement.{statement}
 use Rattle.chart.proofs.put_line.Tie as tie
 
@@ -43,13 +42,13 @@ slice-aggregate-put-form-4 c = refl
 put-form-requires-2 : tie.Need-put-form-requires-2
 put-form-requires-2 c κs = tt
 
-same-length : tie.Need-same-length
-same-length c = search needs
-
 returns : tie.Need-returns
 returns c =
     let columns = c .before .before .before .before .before .before .before .before in
     frames-3 (columns .before .before .before .before .put-form .ensures) (frame-looser (columns-length _ _ _ 1 64) (put-frame (columns .put-columns .ensures))) (c .before .before .put-form2 .ensures) (omega arith)
+
+same-length : tie.Need-same-length
+same-length c = returns c .long
 
 pub put-line-spec : {M : Type 1} → statement M
 put-line-spec =

@@ -22,13 +22,13 @@ slice-aggregate-put-text c = refl
 put-text-requires-2 : tie.Need-put-text-requires-2
 put-text-requires-2 c κs = tt
 
-same-length : tie.Need-same-length
-same-length c = search needs
-
 returns : tie.Need-returns
 returns c =
     let seconds = c .before .before .before .before .before .before .before in
     frames-3 (seconds .before .before .before .before .before .put-text .ensures) (frame-looser (nine-length _) (put-frame (seconds .put-512ths .ensures))) (c .before .before .put-text2 .ensures) (omega arith)
+
+same-length : tie.Need-same-length
+same-length c = returns c .long
 
 pub put-seconds-spec : {M : Type 1} → statement M
 put-seconds-spec =

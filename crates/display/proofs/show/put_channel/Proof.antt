@@ -2,7 +2,6 @@
 use mathlib.Core.Path.{refl}
 use native.Mathlib.Omega.{arith}
 use Rattle.text.proofs.Frames.{frames-4}
-use borrow.Author.Needs.{needs}
 use Rattle.display.proofs.show.put_channel.Statement.{statement}
 use Rattle.display.proofs.show.put_channel.Tie as tie
 
@@ -36,14 +35,14 @@ slice-aggregate-put-either-2 c = refl
 put-either-requires : tie.Need-put-either-requires
 put-either-requires c κs = tt
 
-same-length : tie.Need-same-length
-same-length c = search needs
-
 returns : tie.Need-returns
 returns c =
     let form = c .before .before .before .before .before .before .before .before in
     let speed = form .before .before .before .before .before .before .before in
     frames-4 (speed .before .before .before .before .put-duties .ensures) (speed .put-speed .ensures) (form .put-form .ensures) (c .before .before .put-either .ensures) (omega arith)
+
+same-length : tie.Need-same-length
+same-length c = returns c .long
 
 pub put-channel-spec : {M : Type 1} → statement M
 put-channel-spec =

@@ -2,7 +2,6 @@
 use mathlib.Core.Path.{refl}
 use native.Mathlib.Omega.{arith}
 use Rattle.text.proofs.Frames.{frames-3}
-use borrow.Author.Needs.{needs}
 use Rattle.display.proofs.show.put_pins.Statement.{statement}
 use Rattle.display.proofs.show.put_pins.Tie as tie
 
@@ -24,16 +23,19 @@ slice-aggregate-put-either-4 c = refl
 put-either-requires-2 : tie.Need-put-either-requires-2
 put-either-requires-2 c κs = tt
 
+fan-fail-requires : tie.Need-fan-fail-requires
+fan-fail-requires c κs = tt
+
 put-fan-fail-requires : tie.Need-put-fan-fail-requires
 put-fan-fail-requires c κs = tt
 
-same-length : tie.Need-same-length
-same-length c = search needs
-
 returns : tie.Need-returns
 returns c =
-    let either2 = c .before .before .before .before .before .before in
+    let either2 = c .before .before .before .before .before .before .before .before in
     frames-3 (either2 .before .before .before .before .before .before .put-either .ensures) (either2 .put-either2 .ensures) (c .before .before .put-fan-fail .ensures) (omega arith)
+
+same-length : tie.Need-same-length
+same-length c = returns c .long
 
 pub put-pins-spec : {M : Type 1} → statement M
 put-pins-spec =
@@ -45,6 +47,7 @@ put-pins-spec =
     slice-aggregate-put-either-3
     slice-aggregate-put-either-4
     put-either-requires-2
+    fan-fail-requires
     put-fan-fail-requires
     same-length
     returns)

@@ -1,7 +1,6 @@
 -- `show::put_show` meets its contract. Assumes nothing.
 use native.Mathlib.Omega.{arith}
 use Rattle.text.proofs.Frames.{frames-3}
-use borrow.Author.Needs.{needs}
 use Rattle.display.proofs.show.put_show.Statement.{statement}
 use Rattle.display.proofs.show.put_show.Tie as tie
 
@@ -17,13 +16,13 @@ put-pins-requires c κs = tt
 put-channels-requires : tie.Need-put-channels-requires
 put-channels-requires c κs = tt
 
-same-length : tie.Need-same-length
-same-length c = search needs
-
 returns : tie.Need-returns
 returns c =
     let second = c .before .before .before .before .before .before in
     frames-3 (second .before .before .before .before .put-timer .ensures) (second .put-pins .ensures) (c .before .before .put-channels .ensures) (omega arith)
+
+same-length : tie.Need-same-length
+same-length c = returns c .long
 
 pub put-show-spec : {M : Type 1} → statement M
 put-show-spec =

@@ -2,9 +2,14 @@
 use mathlib.Core.Path.{refl}
 use native.Mathlib.Omega.{arith}
 use Rattle.text.proofs.Frames.{frames-4}
-use borrow.Author.Needs.{needs}
 use Rattle.display.proofs.show.put_timer.Statement.{statement}
 use Rattle.display.proofs.show.put_timer.Tie as tie
+
+watchdog-code-requires : tie.Need-watchdog-code-requires
+watchdog-code-requires c κs = tt
+
+watchdog-limit-requires : tie.Need-watchdog-limit-requires
+watchdog-limit-requires c κs = tt
 
 valid-requires : tie.Need-valid-requires
 valid-requires c κs = tt
@@ -27,19 +32,21 @@ slice-aggregate-put-either-2 c = refl
 put-either-requires : tie.Need-put-either-requires
 put-either-requires c κs = tt
 
-same-length : tie.Need-same-length
-same-length c = search needs
-
 returns : tie.Need-returns
 returns c =
     let watchdog = c .before .before .before .before .before .before .before .before in
     let seconds = watchdog .before .before .before .before in
     frames-4 (seconds .before .before .before .before .before .put-valid .ensures) (seconds .put-seconds .ensures) (watchdog .put-watchdog .ensures) (c .before .before .put-either .ensures) (omega arith)
 
+same-length : tie.Need-same-length
+same-length c = returns c .long
+
 pub put-timer-spec : {M : Type 1} → statement M
 put-timer-spec =
     tie.close
     (tie.spec
+    watchdog-code-requires
+    watchdog-limit-requires
     valid-requires
     put-valid-requires
     put-seconds-requires

@@ -3,7 +3,6 @@ use mathlib.Core.Path.{refl}
 use native.Mathlib.Omega.{arith}
 use lib.ListN.{length-take}
 use Rattle.text.proofs.Frames.{put-frame, frame-looser}
-use borrow.Author.Needs.{needs}
 use Rattle.text.proofs.decimal.put_column.Statement.{statement}
 use Rattle.text.proofs.decimal.put_column.Tie as tie
 
@@ -28,11 +27,11 @@ part-put-end c = omega arith
 put-requires : tie.Need-put-requires
 put-requires c κs = tt
 
-same-length : tie.Need-same-length
-same-length c = search needs
-
 returns : tie.Need-returns
 returns c = frame-looser (rw length-take (omega arith)) (put-frame (c .before .before .put .ensures))
+
+same-length : tie.Need-same-length
+same-length c = returns c .long
 
 pub put-column-spec : {M : Type 1} → statement M
 put-column-spec =
