@@ -3,3 +3,4 @@ pub mod Limits
 pub mod Rows
 pub mod Taking
 pub mod Parsing
+pub mod Order

@@ -7,7 +7,7 @@ use lib.Dec.{eqb}
 use borrow.Author.Tests.{eq-eqb, eqb-true}
 use Rattle.commands.specs.Table.{Row, nameOf, sameBytes, Named, known, unknown, namedAmong}
 
-same-self : (word : List ℕ) → sameBytes word word ≡ true
+pub same-self : (word : List ℕ) → sameBytes word word ≡ true
 unfolding sameBytes
 same-self [] = refl
 same-self (byte ∷ word) = rw (eq-eqb byte byte refl) (same-self word)
@@ -20,7 +20,7 @@ pub and-right : (a b : Bool) → (a && b) ≡ true → b ≡ true
 and-right true b e = e
 and-right false b e = cc
 
-same-equal : (a b : List ℕ) → sameBytes a b ≡ true → a ≡ b
+pub same-equal : (a b : List ℕ) → sameBytes a b ≡ true → a ≡ b
 unfolding sameBytes
 same-equal [] [] e = refl
 same-equal [] (y ∷ b) e = cc

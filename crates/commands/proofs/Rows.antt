@@ -8,6 +8,7 @@ use native.Mathlib.Numerals.{add-one}
 use lib.ListN.{length, getD, take, drop, drop-of-length-le, List·getD-eq-default, length-map}
 use lib.Dec.{leb}
 use borrow.Author.Tests.{leb-true}
+use Rattle.rules.specs.Basics.{every}
 use Rattle.text.specs.Put.{Put}
 use Rattle.commands.specs.declared.table.Command.{Command}
 use Rattle.commands.specs.declared.table.Found.{Found}
@@ -87,6 +88,15 @@ usage-put row put = rw (row .told, ← ap (λ d. d .usage) (row .same)) put
 pub usage-past : (place : ℕ) → length commands ≤ place → usageAt place ≡ []
 unfolding usageAt
 usage-past place h = List·getD-eq-default (map (λ row. row .usage) commands) [] {n = place} (rw length-map h)
+
+short-at : (rows : List Row) (place : ℕ) → every (λ row. leb (length (row .usage)) 38) rows ≡ true → length (getD (map (λ row. row .usage) rows) place []) ≤ 38
+short-at [] place e = omega arith
+short-at (row ∷ rows) zero e = leb-true _ _ (and-left _ _ e)
+short-at (row ∷ rows) (suc place) e = short-at rows place (and-right (leb (length (row .usage)) 38) _ e)
+
+pub usage-short : (place : ℕ) → length (usageAt place) ≤ 38
+unfolding usageAt commands
+usage-short place = short-at commands place refl
 
 -- as many rows, and numbers of a state, as the source has
 pub many : length commands ≡ 14

@@ -1,5 +1,5 @@
 -- `table::find` meets its contract: the rows before the index do not have that name. Assumes nothing.
-use Prim.Native.Nat.{_-_, _≤_}
+use Prim.Native.Nat.{_+_, _-_, _≤_}
 use mathlib.Core.Path.{_≡_, refl}
 use native.Mathlib.Omega.{arith}
 use lib.ListN.{drop}
@@ -52,8 +52,9 @@ loop-again : tie.Need-loop-again Inv-loop μ-loop
 loop-again c =
     let loop = c .before .before .before .before .before .before .before .loop in
     let table = c .before .before .before .before .before .before .before .before .table in
+    let more : loop .i + 1 ≤ 14 = omega arith in
     let at = row-at (table .result) rows (table .ensures) (loop .i) (omega (arith, many)) _ in
-    (omega arith, named-later at _ (loop .inv .1) (c .before .is-name .ensures) (c .if1 .left))
+    (more, named-later at _ (loop .inv .1) (c .before .is-name .ensures) (c .if1 .left))
 
 array-copy-out-row-2 : tie.Need-array-copy-out-row-2 Inv-loop μ-loop
 array-copy-out-row-2 c = search needs

@@ -1,0 +1,92 @@
+-- The order of the rows does not matter: a word names a row exactly where the table has that row with that name. What a test of
+-- every row shows holds of every call that a line is.
+use Prim.Native.Nat.{ℕ, _+_}
+use mathlib.Core.Path.{_≡_, refl, sym, ap, _∙_}
+use mathlib.Core.Bool.{Bool, true, false, not, _&&_}
+use mathlib.Core.List.{List, [], _∷_, List·Memᴰ, List·Memᴰ·head, List·Memᴰ·tail}
+use native.Mathlib.Omega.{arith}
+use lib.ListN.{length}
+use lib.Dec.{eqb}
+use Rattle.rules.specs.Basics.{every}
+use Rattle.text.specs.Words.{runOf}
+use Rattle.commands.specs.declared.table.Verb.{Verb}
+use Rattle.commands.specs.declared.Numbers.{Numbers}
+use Rattle.commands.specs.declared.Numbers.the-variants as numbers
+use Rattle.commands.specs.declared.Parsed.the-variants.{Call}
+use Rattle.commands.specs.Table.{Row, commands, nameOf, sameBytes, Named, known, unknown, namedAmong, namedBy}
+use Rattle.commands.specs.Commands.{takenOf, parsedBy, parsedIn, parsedAs, parsedOf}
+use Rattle.commands.proofs.Names.{and-left, and-right, same-self, same-equal}
+
+every-at : {A : Type 0} (test : A → Bool) {x : A} (xs : List A) → every test xs ≡ true → List·Memᴰ x xs → test x ≡ true
+every-at test (y ∷ xs) e (List·Memᴰ·head p) = ap test p ∙ and-left (test y) (every test xs) e
+every-at test (y ∷ xs) e (List·Memᴰ·tail m) = every-at test xs (and-right (test y) (every test xs) e) m
+
+-- ---- no name stands twice
+abbrev differ : List Row → Bool
+differ [] = true
+differ (row ∷ rows) = every (λ other. not (sameBytes (nameOf other) (nameOf row))) rows && differ rows
+
+pub names-differ : differ commands ≡ true
+unfolding commands runOf sameBytes
+names-differ = refl
+
+not-true : (b : Bool) → not b ≡ true → b ≡ false
+not-true true e = sym e
+not-true false e = refl
+
+-- ---- the row that is named is in the table, and the word is its name
+abbrev Has : List Row → List ℕ → Row → Type 0
+Has rows word row = List·Memᴰ row rows × (word ≡ nameOf row)
+
+has-later : {r : Row} {rows : List Row} {word : List ℕ} {row : Row} → Has rows word row → Has (r ∷ rows) word row
+has-later h = (List·Memᴰ·tail (h .0), h .1)
+
+has-here : (i : ℕ) {r : Row} {rows : List Row} (word : List ℕ) {j : ℕ} {row : Row} → sameBytes word (nameOf r) ≡ true → known i r ≡ known j row → Has (r ∷ rows) word row
+has-here i {r} word {j} {row} t e =
+    let same : row ≡ r = cc in
+    (List·Memᴰ·head same, same-equal word (nameOf r) t ∙ ap nameOf (sym same))
+
+pub row-of-named : (rows : List Row) (i : ℕ) (word : List ℕ) {j : ℕ} {row : Row} → namedAmong rows i word ≡ known j row → Has rows word row
+unfolding namedAmong
+row-of-named [] i word e = let z : _≡_ {A = ℕ} 0 1 = cc in absurd (omega arith)
+row-of-named (r ∷ rows) i word {j} {row} e = go (row-of-named rows (i + 1) word) (sameBytes word (nameOf r)) refl
+  where
+    go : (namedAmong rows (i + 1) word ≡ known j row → Has rows word row) → (t : Bool) → sameBytes word (nameOf r) ≡ t → Has (r ∷ rows) word row
+    go later true t = has-here i word t (rw t at e)
+    go later false t = has-later (later (rw t at e))
+
+-- ---- a row of the table is named by its name, wherever it stands
+pub named-by-name : (rows : List Row) (i : ℕ) {row : Row} → differ rows ≡ true → List·Memᴰ row rows → (j : ℕ) × (namedAmong rows i (nameOf row) ≡ known j row)
+unfolding namedAmong
+named-by-name (r ∷ rows) i d (List·Memᴰ·head e) = (i, rw (e, same-self (nameOf r)))
+named-by-name (r ∷ rows) i {row} d (List·Memᴰ·tail m) =
+    let apart = every-at (λ other. not (sameBytes (nameOf other) (nameOf r))) rows (and-left _ (differ rows) d) m in
+    let later = named-by-name rows (i + 1) (and-right (every (λ other. not (sameBytes (nameOf other) (nameOf r))) rows) (differ rows) d) m in
+    (later .0, rw (not-true (sameBytes (nameOf row) (nameOf r)) apart) (later .1))
+
+-- ---- a call that a line is stands in the table
+called-by : (verb called : Verb) (taken : Numbers) → parsedBy verb taken ≡ Call called → verb ≡ called
+called-by verb called numbers.Taken e = cc
+called-by verb called (numbers.Wrong reason) e = cc
+
+called-in : (place : ℕ) (verb called : Verb) (limits : List ℕ) (words : List (List ℕ)) → parsedIn place verb limits words ≡ Call called → verb ≡ called
+unfolding parsedIn
+called-in place verb called limits words e = go (eqb (length words) (length limits)) refl
+  where
+    go : (t : Bool) → eqb (length words) (length limits) ≡ t → verb ≡ called
+    go true t = called-by verb called (takenOf limits 0 words) (rw t at e)
+    go false t = cc (rw t at e)
+
+called-as : (named : Named) (words : List (List ℕ)) {called : Verb} → parsedAs named words ≡ Call called →
+    (place : ℕ) × (row : Row) × (named ≡ known place row) × (row .verb ≡ called)
+called-as unknown words e = let z : _≡_ {A = ℕ} 0 1 = cc in absurd (omega arith)
+called-as (known place row) words {called} e = (place, row, refl, called-in place (row .verb) called (row .limits) words e)
+
+-- what a test shows of every row's verb holds of the verb of a line
+pub called-tested : (test : Verb → Bool) → every (λ row. test (row .verb)) commands ≡ true → (words : List (List ℕ)) {called : Verb} → parsedOf words ≡ Call called → test called ≡ true
+unfolding parsedOf namedBy
+called-tested test all [] e = let z : _≡_ {A = ℕ} 0 1 = cc in absurd (omega arith)
+called-tested test all (word ∷ words) e =
+    let named = called-as (namedBy word) words e in
+    let has = row-of-named commands 0 word (named .2) in
+    sym (ap test (named .3)) ∙ every-at (λ row. test (row .verb)) commands all (has .0)
