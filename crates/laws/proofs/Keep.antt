@@ -4,9 +4,11 @@ use mathlib.Core.Path.{_≡_, refl}
 use mathlib.Core.Bool.{true, false}
 use mathlib.Core.List.{List, [], _∷_}
 use lib.Dec.{eqb}
-use Rattle.rules.specs.Map.{placeAt, isCarried}
-use Rattle.rules.specs.Calls.{accepted, stateNotValid, answer}
-use Rattle.rules.specs.Valid.{validOf, ifValid}
+use Rattle.rules.specs.Map.{settingAt, placeAt, isCarried}
+use Rattle.rules.specs.Calls.{accepted, stateNotValid, readOnly, answer}
+use Rattle.rules.specs.Valid.{validChannel, validRegisters, validStart, validTimer, validOf, ifValid}
+use Rattle.rules.specs.Time.{watchdogLimit}
+use Rattle.rules.specs.Start.{zeroState}
 use Rattle.rules.specs.Write.{writeRefusal, writeAt, writeOf}
 use Rattle.rules.specs.Read.{readAt, readOf}
 use Rattle.rules.specs.Tick.{tick, iterate, ticksPassed}
@@ -83,6 +85,11 @@ calls-keep s (Pin high) =
       refused = (unfold pinOf in same-if-valid s _ (accepted-same s _));
       valid = λ v. pin-valid s v high;
     }
+
+-- a valid state and a call that it refuses: a write to 11h, which can only be read
+pub kept-example : (validOf zeroState ≡ true) × (made zeroState (Write 0x11 0) .refusal ≡ readOnly)
+unfolding made writeOf writeAt writeRefusal placeAt settingAt validOf validRegisters validStart validTimer validChannel watchdogLimit
+kept-example = (refl, refl)
 
 -- and so after a list of them
 pub each-valid : (s : State) (calls : List Call) → validOf s ≡ true → validOf (afterEach s calls) ≡ true
