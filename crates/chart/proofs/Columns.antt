@@ -13,7 +13,7 @@ use Rattle.rules.specs.declared.Conditions.{Conditions}
 use Rattle.rules.specs.State.{channel}
 use Rattle.rules.specs.Duty.{conditionsOf, outputDuty}
 use Rattle.rules.specs.Tick.{ticksPassed}
-use Rattle.text.proofs.Tests.{by-test}
+use Rattle.rules.proofs.Tests.{by-test}
 use Rattle.chart.specs.Chart.{dutyAfter, ticksAt, blockOf, columnsFrom}
 
 -- the duty of a state that ticks have led to

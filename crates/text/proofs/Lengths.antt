@@ -6,7 +6,7 @@ use lib.ListN.{length, length-append}
 use lib.Dec.{eqb}
 use Rattle.text.specs.Decimal.{digitsWithin, digitsOf}
 use Rattle.text.specs.Fraction.{nineDecimals}
-use Rattle.text.proofs.Tests.{by-test}
+use Rattle.rules.proofs.Tests.{by-test}
 use Rattle.text.proofs.RoundTrip.{exactly-nine}
 
 digits-within : (room least n : ℕ) → length (digitsWithin room least n) ≤ room

@@ -12,7 +12,7 @@ use borrow.Author.Tests.{lt-ltb, ltb-true, le-leb, eqb-true, ne-eqb}
 use Rattle.text.specs.declared.number.Number.the-variants.{Value}
 use Rattle.text.specs.Number.{digitOf, areDigits, spelledAfter, limited, numberAfter, inBase, prefixed, numberOf}
 use Rattle.text.specs.Decimal.{digitsWithin, digitsOf, decimalOf}
-use Rattle.text.proofs.Tests.{by-test, and-left, and-right}
+use Rattle.rules.proofs.Tests.{by-test, and-left, and-right}
 use Rattle.text.proofs.Spelling.{digit-more}
 
 -- ---- digits of any base

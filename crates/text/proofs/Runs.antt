@@ -9,7 +9,7 @@ use lib.ListN.{length, getD, take, drop, length-drop, drop-of-length-le}
 use lib.Seq.{drop-cons, drop-drop}
 use lib.Dec.{eqb}
 use borrow.Author.Tests.{eq-eqb, ne-eqb}
-use Rattle.text.proofs.Tests.{by-test}
+use Rattle.rules.proofs.Tests.{by-test}
 use Rattle.text.specs.Words.{isBlank, wordsOf, runOf, lengthened, counted, Finds}
 use Rattle.text.specs.declared.line.Word.{Word}
 use Rattle.text.specs.declared.line.Word.the-variants.{At, Nothing}
