@@ -1,2 +1,4 @@
+pub mod Spaced
+pub mod Replying
 pub mod Spacing
 pub mod Telling

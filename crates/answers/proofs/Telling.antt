@@ -4,7 +4,7 @@ use mathlib.Core.Path.{_≡_, _∙_}
 use mathlib.Core.List.{List}
 use Rattle.rules.specs.declared.State.{State}
 use Rattle.text.specs.Put.{Put}
-use Rattle.answers.specs.declared.calls.Reply.{Reply}
+use Rattle.answers.specs.declared.old_calls.Reply.{Reply}
 use Rattle.answers.specs.Replies.{Replies}
 
 pub tells : {text before after : List ℕ} {given s : State} {at next : ℕ} {reply : Reply} →

@@ -21,7 +21,7 @@ use Rattle.rules.specs.Speed.{speedOf, speedRefusal, speedValue}
 use Rattle.text.specs.Put.{Put}
 use Rattle.text.specs.Decimal.{decimalOf}
 use Rattle.text.specs.Fraction.{partsOf, nineDecimals}
-use Rattle.answers.specs.declared.calls.Reply.{Reply}
+use Rattle.answers.specs.declared.old_calls.Reply.{Reply}
 use Rattle.answers.specs.Numbers.{answerLine}
 use Rattle.answers.specs.Image.{byteOf, number}
 

@@ -66,7 +66,7 @@ pub fn limit(i: usize) -> u32
 
 // ---- the numbers of a state
 
-fn flag(on: bool) -> u32
+pub fn flag(on: bool) -> u32
     ensures { λ r. ⌜ (r ≡ Basics·flag on) × (r ≤ 1) ⌝ }
 {
     if on {
@@ -169,7 +169,7 @@ pub fn numbers_of(state: State) -> [u32; STATE_NUMBERS]
 // ---- the state of its numbers
 
 // A number of the values, 0 where there are not so many; its low bits, as much as a u8 or a u16 holds; a bit of it.
-fn value(values: &[u32], i: usize) -> u32
+pub fn value(values: &[u32], i: usize) -> u32
     ensures { λ r. ⌜ r ≡ number (now (values .entry)) i ⌝ }
 {
     if i < values.len() {
@@ -184,7 +184,7 @@ fn long(values: &[u32], i: usize) -> u32
     value(values, i)
 }
 
-fn byte(values: &[u32], i: usize) -> u8
+pub fn byte(values: &[u32], i: usize) -> u8
     ensures { λ r. ⌜ r ≡ byteOf (number (now (values .entry)) i) ⌝ }
 {
     (value(values, i) % 256) as u8

@@ -16,7 +16,7 @@ use Rattle.commands.specs.declared.table.Verb.the-variants.{Write, Read, Ticks,
 use Rattle.commands.specs.declared.Parsed.{Parsed}
 use Rattle.commands.specs.declared.Parsed.the-variants.{Call, Wrong}
 use Rattle.commands.specs.Commands.{parsedOf, valuesOf}
-use Rattle.answers.specs.declared.calls.Reply.{Reply}
+use Rattle.answers.specs.declared.old_calls.Reply.{Reply}
 use Rattle.answers.specs.Numbers.{answerLine}
 use Rattle.answers.specs.Image.{stateNumbers, stateFrom}
 use Rattle.answers.specs.Replies.{Replies, Refuses, startBy, writeBy, readBy, ticksBy, tachBy, pinBy, speedBy, readLine, fanFailLine, speedLine, cabinLine, okLine}

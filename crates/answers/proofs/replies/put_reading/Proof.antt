@@ -1,0 +1,27 @@
+-- `replies::put_reading` meets its contract. Assumes nothing.
+use Rattle.text.proofs.Stores.{put-append}
+use Rattle.answers.specs.Numbers.{spacedParts}
+use Rattle.answers.proofs.Replying.{reading-length}
+use borrow.Author.Needs.{needs}
+use Rattle.answers.proofs.replies.put_reading.Statement.{statement}
+use Rattle.answers.proofs.replies.put_reading.Tie as tie
+
+put-part-requires : tie.Need-put-part-requires
+put-part-requires c κs = search needs
+
+put-parts-requires : tie.Need-put-parts-requires
+put-parts-requires c κs = search needs
+
+same-length : tie.Need-same-length
+same-length c = search needs
+
+returns : tie.Need-returns
+unfolding spacedParts
+returns c =
+    let seconds = c .before .before .before .before .before .before in (
+      put-append (seconds .put-part .ensures) (c .before .before .put-parts .ensures),
+      reading-length (seconds .before .before .before .before .args .reading) (search needs),
+    )
+
+pub put-reading-spec : {M : Type 1} → statement M
+put-reading-spec = tie.close (tie.spec put-part-requires put-parts-requires same-length returns)

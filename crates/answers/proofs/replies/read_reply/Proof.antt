@@ -1,0 +1,41 @@
+-- `replies::read_reply` meets its contract. Assumes nothing.
+use borrow.Author.Needs.{needs}
+use Rattle.answers.proofs.replies.read_reply.Statement.{statement}
+use Rattle.answers.proofs.replies.read_reply.Tie as tie
+
+value-requires : tie.Need-value-requires
+value-requires c κs = search needs
+
+make-requires : tie.Need-make-requires
+make-requires c κs = search needs
+
+cast-numbers-reply : tie.Need-cast-numbers-reply
+cast-numbers-reply c = search needs
+
+cast-t9 : tie.Need-cast-t9
+cast-t9 c = search needs
+
+slice-aggregate-numbers-reply : tie.Need-slice-aggregate-numbers-reply
+slice-aggregate-numbers-reply c = search needs
+
+numbers-reply-requires : tie.Need-numbers-reply-requires
+numbers-reply-requires c κs = search needs
+
+same-length : tie.Need-same-length
+same-length c = search needs
+
+returns : tie.Need-returns
+returns c = rw (c .before .before .before .before .before .before .before .make .ensures, c .before .before .before .before .before .before .before .before .value .ensures) at (c .before .before .numbers-reply .ensures)
+
+pub read-reply-spec : {M : Type 1} → statement M
+read-reply-spec =
+    tie.close
+    (tie.spec
+    value-requires
+    make-requires
+    cast-numbers-reply
+    cast-t9
+    slice-aggregate-numbers-reply
+    numbers-reply-requires
+    same-length
+    returns)

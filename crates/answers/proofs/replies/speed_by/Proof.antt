@@ -1,0 +1,24 @@
+-- `replies::speed_by` meets its contract. Assumes nothing.
+use mathlib.Core.Path.{sym}
+use borrow.Author.Needs.{needs}
+use Rattle.answers.proofs.replies.speed_by.Statement.{statement}
+use Rattle.answers.proofs.replies.speed_by.Tie as tie
+
+value-requires : tie.Need-value-requires
+value-requires c κs = search needs
+
+value-requires-2 : tie.Need-value-requires-2
+value-requires-2 c κs = search needs
+
+value-requires-3 : tie.Need-value-requires-3
+value-requires-3 c κs = search needs
+
+speed-requires : tie.Need-speed-requires
+speed-requires c κs = search needs
+
+returns : tie.Need-returns
+returns c = rw (sym (c .before .before .before .value .ensures), sym (c .before .before .value2 .ensures), sym (c .before .value3 .ensures)) (c .speed .ensures .0)
+
+pub speed-by-spec : {M : Type 1} → statement M
+speed-by-spec =
+    tie.close (tie.spec value-requires value-requires-2 value-requires-3 speed-requires returns)
