@@ -75,6 +75,25 @@ pub fn flag(on: bool) -> u32
     0
 }
 
+// What a field holds, as a number.
+fn of_byte(n: u8) -> u32
+    ensures { λ r. ⌜ (r ≡ n) × (r ≤ 255) ⌝ }
+{
+    n as u32
+}
+
+fn of_word(n: u16) -> u32
+    ensures { λ r. ⌜ (r ≡ n) × (r ≤ 65535) ⌝ }
+{
+    n as u32
+}
+
+fn of_long(n: u32) -> u32
+    ensures { λ r. ⌜ (r ≡ n) × (r ≤ 4294967295) ⌝ }
+{
+    n
+}
+
 // 00h as it reads.
 fn control_byte(control: u8, status: bool) -> u32
     ensures { λ r. ⌜ (r ≡ controlByte control status) × (r ≤ 255) ⌝ }
@@ -97,20 +116,20 @@ fn box_numbers(state: State) -> [u32; BOX_NUMBERS]
     let timer = state.timer;
     let start = state.start;
     [
-        timer.clock,
+        of_long(timer.clock),
         flag(state.pin),
         control_byte(registers.control, timer.status),
-        registers.frequency as u32,
+        of_byte(registers.frequency),
         faults(channels),
-        registers.mask2 as u32,
-        registers.mask1 as u32,
-        registers.options as u32,
+        of_byte(registers.mask2),
+        of_byte(registers.mask1),
+        of_byte(registers.options),
         flag(timer.expired),
-        timer.idle as u32,
-        start.watchdog as u32,
-        start.spinup as u32,
-        start.target as u32,
-        start.frequency as u32,
+        of_word(timer.idle),
+        of_byte(start.watchdog),
+        of_byte(start.spinup),
+        of_word(start.target),
+        of_byte(start.frequency),
     ]
 }
 
@@ -118,15 +137,15 @@ fn channel_numbers(channel: Channel) -> [u32; CHANNEL_NUMBERS]
     ensures { λ r. ⌜ Numbers channelTable channel r ⌝ }
 {
     [
-        channel.config as u32,
-        channel.dynamics as u32,
-        channel.count as u32,
-        channel.ramp as u32,
-        channel.spin as u32,
-        channel.target as u32,
-        channel.target_count as u32,
-        channel.window as u32,
-        channel.queue as u32,
+        of_byte(channel.config),
+        of_byte(channel.dynamics),
+        of_word(channel.count),
+        of_word(channel.ramp),
+        of_word(channel.spin),
+        of_word(channel.target),
+        of_word(channel.target_count),
+        of_byte(channel.window),
+        of_byte(channel.queue),
     ]
 }
 

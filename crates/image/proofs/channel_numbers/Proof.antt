@@ -1,43 +1,52 @@
 -- `channel_numbers` meets its contract. Assumes nothing.
-use mathlib.Core.Path.{refl}
 use native.Mathlib.Omega.{arith}
 use Rattle.image.specs.Image.{Within}
 use borrow.Author.Needs.{needs}
 use Rattle.image.proofs.channel_numbers.Statement.{statement}
 use Rattle.image.proofs.channel_numbers.Tie as tie
 
-cast-t2 : tie.Need-cast-t2
-cast-t2 c = search needs
+of-byte-requires : tie.Need-of-byte-requires
+of-byte-requires c κs = search needs
 
-cast-t3 : tie.Need-cast-t3
-cast-t3 c = search needs
+of-byte-requires-2 : tie.Need-of-byte-requires-2
+of-byte-requires-2 c κs = search needs
 
-cast-t4 : tie.Need-cast-t4
-cast-t4 c = search needs
+of-word-requires : tie.Need-of-word-requires
+of-word-requires c κs = search needs
 
-cast-t5 : tie.Need-cast-t5
-cast-t5 c = search needs
+of-word-requires-2 : tie.Need-of-word-requires-2
+of-word-requires-2 c κs = search needs
 
-cast-t6 : tie.Need-cast-t6
-cast-t6 c = search needs
+of-word-requires-3 : tie.Need-of-word-requires-3
+of-word-requires-3 c κs = search needs
 
-cast-t7 : tie.Need-cast-t7
-cast-t7 c = search needs
+of-word-requires-4 : tie.Need-of-word-requires-4
+of-word-requires-4 c κs = search needs
 
-cast-t8 : tie.Need-cast-t8
-cast-t8 c = search needs
+of-word-requires-5 : tie.Need-of-word-requires-5
+of-word-requires-5 c κs = search needs
 
-cast-t9 : tie.Need-cast-t9
-cast-t9 c = search needs
+of-byte-requires-3 : tie.Need-of-byte-requires-3
+of-byte-requires-3 c κs = search needs
 
-cast-t10 : tie.Need-cast-t10
-cast-t10 c = search needs
+of-byte-requires-4 : tie.Need-of-byte-requires-4
+of-byte-requires-4 c κs = search needs
 
 returns : tie.Need-returns
 unfolding Within
-returns c = record { each = refl; within = omega (arith, c .struct-known9 .given .1 .1 .1) }
+returns c = record { each = cc; within = omega arith }
 
 pub channel-numbers-spec : {M : Type 1} → statement M
 channel-numbers-spec =
     tie.close
-    (tie.spec cast-t2 cast-t3 cast-t4 cast-t5 cast-t6 cast-t7 cast-t8 cast-t9 cast-t10 returns)
+    (tie.spec
+    of-byte-requires
+    of-byte-requires-2
+    of-word-requires
+    of-word-requires-2
+    of-word-requires-3
+    of-word-requires-4
+    of-word-requires-5
+    of-byte-requires-3
+    of-byte-requires-4
+    returns)
