@@ -8,8 +8,8 @@ use native.Mathlib.Omega.{arith}
 use lib.Dec.{ltb, lit<}
 use lib.ListN.{length, List·getD-eq-default, replicate}
 use borrow.Author.Tests.{ltb-true, ltb-false, eqb-false, le-ltb}
-use Rattle.demands.specs.Types.{Channel, StartValues, State, Conditions, Override, None, Duty, Answer}
-use Rattle.rules.specs.State.{blank, channel, withSettings, withMotion, withChannels, withTimer}
+use Rattle.demands.specs.Types.{Channel, State, Conditions, Override, None, Duty, Answer}
+use Rattle.rules.specs.State.{blank, channel, startValues, timer, withSettings, withMotion, withChannels, withTimer}
 use Rattle.rules.specs.Registers.{rateCode, watchdogCode}
 use Rattle.rules.specs.Time.{watchdogLimit}
 use Rattle.rules.specs.Duty.{conditionsOf, overrideBy, overrideOf, dutyUnder, outputDuty}
@@ -17,7 +17,7 @@ use Rattle.rules.specs.Valid.{validChannel, validRegisters, validStart, validTi
 use Rattle.rules.specs.Start.{startChannel, asAtStart}
 use Rattle.rules.specs.Calls.{accepted, stateNotValid, answer, readAnswer}
 use Rattle.rules.specs.Make.{made, madeEach, afterEach}
-use Rattle.rules.specs.Tick.{wanted, periodOf, spinUpDue, inForce, overridden, timer, tick, iterate, ticksPassed}
+use Rattle.rules.specs.Tick.{wanted, periodOf, spinUpDue, inForce, overridden, tick, iterate, ticksPassed}
 use Rattle.demands.specs.Elapsed.{answers, endOf, total, totals, distance, settlingTicks, dutyAt, Settles, AsCounted}
 use Rattle.rules.proofs.Tests.{by-test}
 use Rattle.laws.proofs.Iterate.{iterate-add}
@@ -181,7 +181,7 @@ as-counted =
 -- six channels at a ramp value, with a target and a dynamics byte, at clock 6, under a watchdog code and an idle count
 abbrev settlingFrom : ℕ → ℕ → ℕ → ℕ → ℕ → State
 settlingFrom ramp target dynamics code idle =
-    let v : StartValues = record { watchdog = code; spinup = 0; target = target; frequency = 0 } in
+    let v = startValues code 0 target 0 in
     let ch = withMotion (withSettings (startChannel v) 0 dynamics 0 target 480) ramp 0 in
     withChannels (withTimer (asAtStart v 6 true) (timer 6 idle false false)) (replicate 6 ch)
 

@@ -7,9 +7,9 @@ use native.Mathlib.Omega.{arith}
 use lib.Dec.{leb, ltb, eqb}
 use lib.ListN.{length, take, replicate, length-map}
 use borrow.Author.Tests.{lt-ltb, le-ltb, eq-eqb, ne-eqb, eqb-false}
-use Rattle.demands.specs.Types.{Channel, Results, StartValues, State, Conditions, Duty, Answer, StatusRegister, Count, Output, ReadOnly}
+use Rattle.demands.specs.Types.{Channel, Results, State, Conditions, Duty, Answer, StatusRegister, Count, Output, ReadOnly}
 use Rattle.rules.specs.Basics.{flag}
-use Rattle.rules.specs.State.{channel, registers, withSettings, withMotion, withChannels, withRegisters}
+use Rattle.rules.specs.State.{channel, registers, startValues, withSettings, withMotion, withChannels, withRegisters}
 use Rattle.rules.specs.Registers.{spinCode, rateCode, asymmetric, tachometerEnabled}
 use Rattle.rules.specs.Words.{countWord, outputWord, wordByte}
 use Rattle.rules.specs.Map.{isLow, placeAt, statusAt}
@@ -203,7 +203,7 @@ with-the-eighth s i counts c k l =
 -- six channels that begin so, with a configuration byte and an options byte
 abbrev example : Begin → ℕ → ℕ → State
 example b config options =
-    let v : StartValues = record { watchdog = 0; spinup = 0; target = b .target; frequency = 0 } in
+    let v = startValues 0 0 (b .target) 0 in
     let dynamics = b .rate * 4 + flag (b .falls) * 2 in
     let ch = withMotion (withSettings (startChannel v) config dynamics 0 (b .target) 480) (b .ramp) 0 in
     withChannels (withRegisters (asAtStart v (b .clock) true) (registers 0x20 0 0x3F 0x3F options)) (replicate 6 ch)
@@ -249,7 +249,7 @@ unfolding validOf validRegisters validStart validTimer validChannel
 steady-enabled = record { channel-is = one-of-six-example steady refl refl; enabled = refl }
 
 abbrev watched : State
-watched = asAtStart (record { watchdog = 1; spinup = 0; target = 0; frequency = 0 }) 0 true
+watched = asAtStart (startValues 1 0 0 0) 0 true
 
 pub trials-hold : TrialsHold
 unfolding validOf validRegisters validStart validTimer validChannel conditionsOf overrideBy outputDuty judged isBad spinTicks watchdogLimit approach ahead clockAt speedOf speedRefused speedRange

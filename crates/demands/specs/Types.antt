@@ -1,7 +1,6 @@
 -- The types of the rules, under short names.
 pub use Rattle.rules.specs.declared.Channel.{Channel}
 pub use Rattle.rules.specs.declared.Results.{Results}
-pub use Rattle.rules.specs.declared.StartValues.{StartValues}
 pub use Rattle.rules.specs.declared.State.{State}
 pub use Rattle.rules.specs.declared.Conditions.{Conditions}
 pub use Rattle.rules.specs.declared.Override.{Override}

@@ -67,16 +67,18 @@ fn failed_fan(option: u8, fault: bool, faulty: bool) -> Override
 pub fn override_by(conditions: Conditions, monitor: bool, fault: bool) -> Override
     ensures { λ r. ⌜ r ≡ overrideBy conditions monitor fault ⌝ }
 {
+    let standby = conditions.standby;
+    let expired = conditions.expired;
     if monitor {
         return Override::Duty(0);
     }
     if !conditions.pin {
         return Override::Duty(511);
     }
-    if conditions.standby {
+    if standby {
         return Override::Duty(0);
     }
-    if conditions.expired {
+    if expired {
         return Override::Duty(511);
     }
     failed_fan(conditions.option, fault, conditions.faulty)

@@ -9,7 +9,7 @@ use lib.Dec.{leb, ltb, eqb, lit<}
 use borrow.Author.Tests.{lt-ltb, eqb-true}
 use Rattle.laws.proofs.Types.{Channel, Registers, StartValues, Timer, State, BoxRegister, Control, Frequency, Mask2, Mask1, Options, ChannelRegister, Config, Dynamics, Target, TargetCount, Window, Place, Absent, ReadOnly, Shared, Own, Answer, ReadAnswer}
 use Rattle.rules.specs.Basics.{_implies_, every, bit, bits}
-use Rattle.rules.specs.State.{channel, withSettings, withChannels, withRegisters, registers}
+use Rattle.rules.specs.State.{channel, withSettings, withChannels, withRegisters, registers, startValues, timer}
 use Rattle.rules.specs.Registers.{standby, watchdogCode, monitorOnly, controlKept, dynamicsKept, maskKept, optionsKept, configRefused, targetCount}
 use Rattle.rules.specs.Words.{withByte, dutyWord, countWord}
 use Rattle.rules.specs.Time.{watchdogLimit}
@@ -17,7 +17,7 @@ use Rattle.rules.specs.Map.{placeAt, isCarried}
 use Rattle.rules.specs.Valid.{validMotion, validChannel, validRegisters, validStart, validTimer, validOf}
 use Rattle.rules.specs.Start.{startChannel, asAtStart, zeroState, startOf}
 use Rattle.rules.specs.Write.{stopped, channelWritten, byteRefusal, reset, boxWritten, ownWritten, written, writeRefusal, writeAt, writeOf}
-use Rattle.rules.specs.Read.{statusCleared, afterRead, readAt, readOf}
+use Rattle.rules.specs.Read.{afterRead, readAt, readOf}
 use Rattle.rules.specs.Calls.{accepted, accessed}
 use Rattle.rules.proofs.Tests.{by-test, same, choice, and-left, and-both, allBelow, all-below, every-set, every-map, every-replicate}
 use Rattle.laws.proofs.Valid.{parts, valid-of-parts, ChannelParts, channel-parts, parts-of-channel, valid-of-channel-parts, settings-parts, registers-parts, valid-of-registers-parts, start-target-lt, four, of-four}
@@ -65,7 +65,7 @@ standby-kept b =
 fresh-timer : (code : ℕ) (t : Timer) → t .idle ≡ 0 → t .expired ≡ false → code < 4 → validTimer code t ≡ true
 unfolding validTimer watchdogLimit
 fresh-timer code t i e h =
-    let fresh : Timer = record { clock = 0; idle = 0; expired = false; status = false } in
+    let fresh = timer 0 0 false false in
     rw (i, e) (all-below 4 (λ k. validTimer k fresh) refl code h)
 
 -- a state whose watchdog has just been fed, valid but for its timer: so it is valid
@@ -192,7 +192,7 @@ zero-valid = refl
 pub start-valid : (watchdog spinup target frequency : ℕ) → validOf (startOf watchdog spinup target frequency .state) ≡ true
 unfolding startOf
 start-valid watchdog spinup target frequency =
-    let v : StartValues = record { watchdog = watchdog; spinup = spinup; target = target; frequency = frequency } in
+    let v = startValues watchdog spinup target frequency in
     choice (λ (x : Answer). validOf (x .state) ≡ true) (validStart v) _ _
     (λ e. fed-valid (asAtStart v 0 true) (as-at-start v 0 true e))
     (λ e. zero-valid)
@@ -285,16 +285,10 @@ module _ (s : State) (valid : validOf s ≡ true) where
       (choice (λ (x : Answer). validOf (x .state) ≡ true) (eqb (writeRefusal (placeAt a) b) accepted) _ _
       (λ e. fed-valid _ (written-fed b (placeAt a) (eqb-true _ _ e))) (λ e. valid))
 
-  cleared-fed : Fed (accessed (statusCleared s))
-  cleared-fed =
-      let f = accessed-fed s valid in
-      record { registers = f .registers; start = f .start; channels = f .channels; idle = refl; expired = refl }
-
   after-read-valid : (a : ℕ) → validOf (afterRead s a) ≡ true
   after-read-valid a =
-      choice (λ (t : State). validOf (accessed t) ≡ true) (eqb a 0x00) (statusCleared s) s
-      (λ on. fed-valid (accessed (statusCleared s)) cleared-fed)
-      (λ off. fed-valid (accessed s) (accessed-fed s valid))
+      let f = accessed-fed s valid in
+      fed-valid (afterRead s a) (record { registers = f .registers; start = f .start; channels = f .channels; idle = refl; expired = refl })
 
   pub read-valid : (a : ℕ) → validOf (readOf s a .state) ≡ true
   unfolding readOf readAt

@@ -9,11 +9,11 @@ use lib.Dec.{eqb, lit<}
 use borrow.Author.Tests.{ltb-true, le-leb, lt-leb}
 use Rattle.laws.proofs.Types.{Channel, Timer, State, Conditions}
 use Rattle.rules.specs.Basics.{if_then_else_, some}
-use Rattle.rules.specs.State.{withChannels, withTimer}
+use Rattle.rules.specs.State.{timer, withChannels, withTimer}
 use Rattle.rules.specs.Registers.{monitorOnly, watchdogCode}
 use Rattle.rules.specs.Duty.{conditionsOf, overrideBy}
 use Rattle.rules.specs.Valid.{validTimer, validOf}
-use Rattle.rules.specs.Tick.{overridden, timer, idleLimit, timerTick, channelTick, channelsTick, tick, iterate}
+use Rattle.rules.specs.Tick.{overridden, idleLimit, timerTick, channelTick, channelsTick, tick, iterate}
 use Rattle.rules.proofs.Tests.{by-test}
 use Rattle.laws.proofs.Valid.{parts}
 use Rattle.laws.proofs.Each.{map-same}

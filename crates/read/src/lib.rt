@@ -83,12 +83,10 @@ fn status_byte(state: State, register: StatusRegister) -> u8
 fn after_read(state: State, address: u32) -> State
     ensures { λ r. ⌜ r ≡ afterRead state address ⌝ }
 {
-    if address == 0x00 {
-        let mut next = state;
-        next.timer.status = false;
-        return accessed(next);
-    }
-    accessed(state)
+    let mut next = state;
+    let status = state.timer.status & (address != 0x00);
+    next.timer.status = status;
+    accessed(next)
 }
 
 fn is_carried(place: Place) -> bool
@@ -133,12 +131,9 @@ pub fn read(state: State, address: u32) -> ReadAnswer
         return read_answer(STATE_NOT_VALID, 0, state);
     }
     let place = place_at(address);
+    let after = after_read(state, address);
     if !is_carried(place) {
         return read_answer(NOT_CARRIED, 0, state);
     }
-    read_answer(
-        ACCEPTED,
-        place_byte(state, place),
-        after_read(state, address),
-    )
+    read_answer(ACCEPTED, place_byte(state, place), after)
 }

@@ -2,7 +2,7 @@
 use Prim.Native.Nat.{ℕ}
 use mathlib.Core.Bool.{false}
 use Rattle.rules.specs.Types.{State, Answer, ReadAnswer}
-use Rattle.rules.specs.State.{withTimer}
+use Rattle.rules.specs.State.{timer, withTimer}
 
 -- "Refusal numbers", "Tested in the order of their numbers; given then and never otherwise". 0 is accepted
 abbrev pub accepted : ℕ
@@ -47,4 +47,4 @@ readAnswer refusal byte s = record { refusal = refusal; byte = byte; state = s }
 abbrev pub accessed : State → State
 accessed s =
     let t = s .timer in
-    withTimer s (record { clock = t .clock; idle = 0; expired = false; status = t .status })
+    withTimer s (timer (t .clock) 0 false (t .status))

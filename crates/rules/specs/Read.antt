@@ -1,10 +1,10 @@
 -- The call read.
 use Prim.Native.Nat.{ℕ, _+_}
-use mathlib.Core.Bool.{Bool, false}
+use mathlib.Core.Bool.{Bool, not, _&&_}
 use lib.Dec.{eqb}
 use Rattle.rules.specs.Types.{Channel, State, StatusRegister, Faults2, Faults1, Count, OtherCount, Output, BoxRegister, Control, Frequency, Mask2, Mask1, Options, ChannelRegister, Config, Dynamics, Target, TargetCount, Window, Place, Absent, ReadOnly, Shared, Own, ReadAnswer}
 use Rattle.rules.specs.Basics.{if_then_else_, keep, flag}
-use Rattle.rules.specs.State.{channel, withTimer}
+use Rattle.rules.specs.State.{channel, timer, withTimer}
 use Rattle.rules.specs.Registers.{targetCount}
 use Rattle.rules.specs.Words.{dutyWord, countWord, outputWord, wordByte}
 use Rattle.rules.specs.Map.{placeAt, isCarried}
@@ -48,13 +48,10 @@ placeByte s (Shared r) = boxByte s r
 placeByte s (Own r i) = channelByte (channel s i) r
 
 -- "A read of 00h then clears the status bit"
-abbrev pub statusCleared : State → State
-statusCleared s =
-    let t = s .timer in
-    withTimer s (record { clock = t .clock; idle = t .idle; expired = t .expired; status = false })
-
 abbrev pub afterRead : State → ℕ → State
-afterRead s a = accessed (if eqb a 0x00 then statusCleared s else s)
+afterRead s a =
+    let t = s .timer in
+    accessed (withTimer s (timer (t .clock) (t .idle) (t .expired) (t .status && not (eqb a 0x00))))
 
 -- refusal 2, or the byte "from the state before it". "After a refused read the byte is 0"
 unfoldable pub readAt : State → ℕ → Place → ReadAnswer

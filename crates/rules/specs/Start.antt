@@ -4,7 +4,7 @@ use mathlib.Core.Bool.{Bool, true, false}
 use lib.ListN.{replicate}
 use Rattle.rules.specs.Types.{Channel, StartValues, State, Answer}
 use Rattle.rules.specs.Basics.{if_then_else_, bits}
-use Rattle.rules.specs.State.{blank, registers}
+use Rattle.rules.specs.State.{blank, registers, startValues, timer}
 use Rattle.rules.specs.Words.{wordCount}
 use Rattle.rules.specs.Valid.{validStart}
 use Rattle.rules.specs.Calls.{accepted, startOutOfRange, answer}
@@ -35,7 +35,7 @@ asAtStart v clock pin =
       registers = registers (0x20 + bits 1 0 (v .watchdog) * 2) (v .frequency) 0x3F 0x3F 0x45;
       pin = pin;
       start = v;
-      timer = record { clock = clock; idle = 0; expired = false; status = false };
+      timer = timer clock 0 false false;
     }
 
 -- refusal 7: "a state with every number 0 and every flag clear, pin low"
@@ -45,13 +45,13 @@ zeroState =
       channels = replicate 6 blank;
       registers = registers 0 0 0 0 0;
       pin = false;
-      start = record { watchdog = 0; spinup = 0; target = 0; frequency = 0 };
-      timer = record { clock = 0; idle = 0; expired = false; status = false };
+      start = startValues 0 0 0 0;
+      timer = timer 0 0 false false;
     }
 
 -- "the pin is high"
 unfoldable pub startOf : ℕ → ℕ → ℕ → ℕ → Answer
 startOf watchdog spinup target frequency =
-    let v : StartValues = record { watchdog = watchdog; spinup = spinup; target = target; frequency = frequency } in
+    let v = startValues watchdog spinup target frequency in
     if validStart v then answer accepted (asAtStart v 0 true)
     else answer startOutOfRange zeroState

@@ -3,7 +3,7 @@ use Prim.Native.Nat.{ℕ}
 use mathlib.Core.Bool.{Bool, false}
 use mathlib.Core.List.{List}
 use lib.ListN.{getD}
-use Rattle.rules.specs.Types.{Channel, Results, Registers, Timer, State}
+use Rattle.rules.specs.Types.{Channel, Results, Registers, StartValues, Timer, State}
 
 -- a channel with every number 0 and every flag clear
 abbrev pub blank : Channel
@@ -82,6 +82,14 @@ withMotion ch ramp spin =
 abbrev pub registers : ℕ → ℕ → ℕ → ℕ → ℕ → Registers
 registers control frequency mask2 mask1 options =
     record { control = control; frequency = frequency; mask2 = mask2; mask1 = mask1; options = options }
+
+-- the pin-set values, and the timer
+abbrev pub startValues : ℕ → ℕ → ℕ → ℕ → StartValues
+startValues watchdog spinup target frequency =
+    record { watchdog = watchdog; spinup = spinup; target = target; frequency = frequency }
+
+abbrev pub timer : ℕ → ℕ → Bool → Bool → Timer
+timer clock idle expired status = record { clock = clock; idle = idle; expired = expired; status = status }
 
 -- a state with other channels; with other registers; with another pin level; with another timer
 abbrev pub withChannels : State → List Channel → State

@@ -5,7 +5,7 @@ use mathlib.Core.List.{List, map}
 use lib.Dec.{leb, ltb, eqb}
 use Rattle.rules.specs.Types.{Channel, Timer, State, Conditions, Override, None, Duty, Answer}
 use Rattle.rules.specs.Basics.{if_then_else_}
-use Rattle.rules.specs.State.{withMotion, withChannels, withTimer}
+use Rattle.rules.specs.State.{timer, withMotion, withChannels, withTimer}
 use Rattle.rules.specs.Registers.{spinCode, rateCode, asymmetric, watchdogCode}
 use Rattle.rules.specs.Time.{clockAfter, watchdogLimit, spinTicks, ratePeriod}
 use Rattle.rules.specs.Duty.{conditionsOf, overrideOf}
@@ -31,9 +31,6 @@ inForce (Duty duty) = true
 
 abbrev pub overridden : Conditions → Channel → Bool
 overridden k ch = inForce (overrideOf k ch)
-
-abbrev pub timer : ℕ → ℕ → Bool → Bool → Timer
-timer clock idle expired status = record { clock = clock; idle = idle; expired = expired; status = status }
 
 -- the idle count at which the watchdog expires, 0 where it is off
 abbrev pub idleLimit : State → ℕ

@@ -198,10 +198,11 @@ pub fn write(state: State, address: u32, byte: u8) -> Answer
     if !valid(state) {
         return answered(STATE_NOT_VALID, state);
     }
+    let fed = accessed(state);
     let place = place_at(address);
     let refusal = write_refusal(place, byte);
     if refusal != ACCEPTED {
         return answered(refusal, state);
     }
-    answered(ACCEPTED, written(accessed(state), byte, place))
+    answered(ACCEPTED, written(fed, byte, place))
 }

@@ -19,6 +19,9 @@ returns c = read-not-valid _ _ _ (sym (c .before .before .valid .ensures) ∙ no
 place-at-requires : tie.Need-place-at-requires
 place-at-requires c κs = search needs
 
+after-read-requires : tie.Need-after-read-requires
+after-read-requires c κs = search needs
+
 is-carried-requires : tie.Need-is-carried-requires
 is-carried-requires c κs = search needs
 
@@ -27,15 +30,13 @@ read-answer-requires-2 c κs = search needs
 
 returns-2 : tie.Need-returns-2
 returns-2 c =
-    read-refused _ _ _ (sym (c .before .before .before .before .before .valid .ensures) ∙ not-false _ (c .before .before .before .before .if1 .left))
-    (rw (c .before .before .before .place-at .ensures) at (sym (c .before .before .is-carried .ensures) ∙ not-true _ (c .before .if2 .taken)))
+    let place = c .before .before .before .before in
+    read-refused _ _ _ (sym (place .before .before .valid .ensures) ∙ not-false _ (place .before .if1 .left))
+    (rw (place .place-at .ensures) at (sym (c .before .before .is-carried .ensures) ∙ not-true _ (c .before .if2 .taken)))
     (c .read-answer2 .ensures)
 
 place-byte-requires : tie.Need-place-byte-requires
-place-byte-requires c κs = rw (c .before .before .place-at .ensures) (place-below-six _)
-
-after-read-requires : tie.Need-after-read-requires
-after-read-requires c κs = search needs
+place-byte-requires c κs = rw (c .before .before .before .place-at .ensures) (place-below-six _)
 
 read-answer-requires-3 : tie.Need-read-answer-requires-3
 read-answer-requires-3 c κs = search needs
@@ -44,8 +45,8 @@ returns-3 : tie.Need-returns-3
 returns-3 c =
     let place = c .before .before .before .before .before in
     read-accepted _ _ _ (sym (place .before .before .valid .ensures) ∙ not-false _ (place .before .if1 .left))
-    (rw (place .place-at .ensures) at (sym (c .before .before .before .before .is-carried .ensures) ∙ not-false _ (c .before .before .before .if2 .left)))
-    (rw (c .before .before .place-byte .ensures, c .before .after-read .ensures, place .place-at .ensures) at (c .read-answer3 .ensures))
+    (rw (place .place-at .ensures) at (sym (c .before .before .before .is-carried .ensures) ∙ not-false _ (c .before .before .if2 .left)))
+    (rw (c .before .place-byte .ensures, c .before .before .before .before .after-read .ensures, place .place-at .ensures) at (c .read-answer3 .ensures))
 
 pub read-spec : {M : Type 1} → statement M
 read-spec =
@@ -55,10 +56,10 @@ read-spec =
     read-answer-requires
     returns
     place-at-requires
+    after-read-requires
     is-carried-requires
     read-answer-requires-2
     returns-2
     place-byte-requires
-    after-read-requires
     read-answer-requires-3
     returns-3)

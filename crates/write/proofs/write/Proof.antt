@@ -18,6 +18,9 @@ returns : tie.Need-returns
 unfolding writeOf
 returns c = not-valid _ _ _ (sym (c .before .before .valid .ensures) ∙ not-true _ (c .before .if1 .taken)) (c .answered .ensures)
 
+accessed-requires : tie.Need-accessed-requires
+accessed-requires c κs = search needs
+
 place-at-requires : tie.Need-place-at-requires
 place-at-requires c κs = search needs
 
@@ -29,26 +32,26 @@ answered-requires-2 c κs = search needs
 
 returns-2 : tie.Need-returns-2
 returns-2 c =
-    write-refused _ _ _ _ _ (sym (c .before .before .before .before .before .valid .ensures) ∙ not-false _ (c .before .before .before .before .if1 .left))
-    (rw (c .before .before .before .place-at .ensures) at (c .before .before .write-refusal .ensures))
+    let place = c .before .before .before in
+    let start = place .before .before .before in
+    write-refused _ _ _ _ _ (sym (start .valid .ensures) ∙ not-false _ (place .before .before .if1 .left))
+    (rw (place .place-at .ensures) at (c .before .before .write-refusal .ensures))
     (c .before .if2 .taken) (c .answered2 .ensures)
 
-accessed-requires : tie.Need-accessed-requires
-accessed-requires c κs = search needs
-
 written-requires : tie.Need-written-requires
-written-requires c κs = rw (c .before .before .before .place-at .ensures) (place-below-six _)
+written-requires c κs = rw (c .before .before .place-at .ensures) (place-below-six _)
 
 answered-requires-3 : tie.Need-answered-requires-3
 answered-requires-3 c κs = search needs
 
 returns-3 : tie.Need-returns-3
 returns-3 c =
-    write-accepted _ _ _ _ (c .before .before .before .before .write-refusal .result)
-    (sym (c .before .before .before .before .before .before .before .valid .ensures) ∙ not-false _ (c .before .before .before .before .before .before .if1 .left))
-    (rw (c .before .before .before .before .before .place-at .ensures) at (c .before .before .before .before .write-refusal .ensures))
-    (c .before .before .before .if2 .left)
-    (rw (c .before .written .ensures, c .before .before .accessed .ensures, c .before .before .before .before .before .place-at .ensures) at (c .answered3 .ensures))
+    let place = c .before .before .before .before in
+    let start = place .before .before .before in
+    write-accepted _ _ _ _ (c .before .before .before .write-refusal .result) (sym (start .valid .ensures) ∙ not-false _ (place .before .before .if1 .left))
+    (rw (place .place-at .ensures) at (c .before .before .before .write-refusal .ensures))
+    (c .before .before .if2 .left)
+    (rw (c .before .written .ensures, place .before .accessed .ensures, place .place-at .ensures) at (c .answered3 .ensures))
 
 pub write-spec : {M : Type 1} → statement M
 write-spec =
@@ -57,11 +60,11 @@ write-spec =
     valid-requires
     answered-requires
     returns
+    accessed-requires
     place-at-requires
     write-refusal-requires
     answered-requires-2
     returns-2
-    accessed-requires
     written-requires
     answered-requires-3
     returns-3)
