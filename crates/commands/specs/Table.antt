@@ -61,9 +61,9 @@ longestOf FanFail = 44
 longestOf Speed = 22
 longestOf Dump = 748
 longestOf Load = 3
-longestOf Show = 2048
-longestOf Chart = 2048
-longestOf Help = 2048
+longestOf Show = 1343
+longestOf Chart = 1431
+longestOf Help = 1003
 
 -- the word that a command begins with
 abbrev pub nameOf : Row → List ℕ

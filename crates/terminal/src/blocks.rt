@@ -1,20 +1,22 @@
 // The input, block by block, and the output, gathered until the program waits for more input.
 ghost use mathlib.Core.Path.{_≡_};
-ghost use Prim.Native.Nat.{_≤_};
+ghost use Prim.Native.Nat.{_+_, _≤_};
 ghost use lib.ListN.{length};
 ghost use Rattle.io.specs.Counts.{Counts};
+ghost use Rattle.dispatch.specs.Answers.{longestAnswer};
+ghost use Rattle.terminal.specs.Sessions.{Keeps};
 use crate::lines::Gathered;
 use crate::lines::answer;
 use crate::lines::gather;
-use rules::State;
+use answers::replies::Hand;
 
 // No answer is longer than this.
 const LONGEST_ANSWER: usize = 4096;
 
-// What goes from one block to the next: the state in hand, how many lines have ended, the line that has not, and how
-// much of the output is not yet written.
-struct Carried {
-    state: State,
+// What goes from one block to the next: what is in hand, how many lines have ended, the line that has not, and how much of
+// the output is not yet written.
+struct Session {
+    hand: Hand,
     lines: u32,
     kept: usize,
     total: usize,
@@ -22,13 +24,13 @@ struct Carried {
 }
 
 // "Before the first `start` or `load` the state in hand is the one that a refused start gives": no watchdog code is 4.
-fn begin() -> Carried
-    ensures { λ r. ⌜ r .kept ≡ 0 ⌝ }
+fn begin() -> Session
+    ensures { λ r. ⌜ (r .kept ≡ 0) × (r .at ≡ 0) ⌝ }
 {
     let refused = start::start(4, 0, 0, 0);
     let state = refused.state;
-    Carried {
-        state: state,
+    Session {
+        hand: Hand { state: state },
         lines: 0,
         kept: 0,
         total: 0,
@@ -43,24 +45,20 @@ fn next_line(lines: u32) -> u32 {
     lines
 }
 
-fn least(a: usize, b: usize) -> usize
-    ensures { λ r. ⌜ r ≤ b ⌝ }
-{
-    if a < b { a } else { b }
-}
-
 // Writes the output so far, and gives the index to go on at.
-fn flush(output: i32, out: &[u8], at: usize) -> usize {
-    let end = least(at, out.len());
-    io::write_all(output, &out[..end]);
+fn flush(output: i32, out: &[u8], at: usize) -> usize
+    requires { ⌜ at ≤ length (now out) ⌝ }
+    ensures { λ r. ⌜ r ≡ 0 ⌝ }
+{
+    io::write_all(output, &out[..at]);
     0
 }
 
 // Writes the output so far where it may have no room for another answer.
-fn make_room(output: i32, out: &[u8], at: usize) -> usize {
-    if out.len() < LONGEST_ANSWER {
-        return flush(output, out, at);
-    }
+fn make_room(output: i32, out: &[u8], at: usize) -> usize
+    requires { ⌜ (at ≤ length (now out)) × (longestAnswer ≤ length (now out)) ⌝ }
+    ensures { λ r. ⌜ r + longestAnswer ≤ length (now (out .entry)) ⌝ }
+{
     if out.len() - LONGEST_ANSWER < at {
         return flush(output, out, at);
     }
@@ -68,36 +66,36 @@ fn make_room(output: i32, out: &[u8], at: usize) -> usize {
 }
 
 // Answers a line that has ended.
-fn end_line(output: i32, line: &[u8], out: &mut [u8], carried: Carried) -> Carried
-    requires { ⌜ carried .kept ≤ length (now line) ⌝ }
-    ensures { λ r. ⌜ r .kept ≡ 0 ⌝ }
+fn end_line(output: i32, line: &[u8], out: &mut [u8], session: Session) -> Session
+    requires { ⌜ Keeps session (now line) (now out) ⌝ }
+    ensures { λ r. ⌜ Keeps r (now (line .entry)) (now (out .exit)) ⌝ }
 {
-    let lines = next_line(carried.lines);
+    let lines = next_line(session.lines);
     let gathered = Gathered {
-        kept: carried.kept,
-        total: carried.total,
+        kept: session.kept,
+        total: session.total,
     };
-    let reply = answer(line, gathered, lines, carried.state, out, carried.at);
-    let state = reply.state;
-    let at = make_room(output, out, reply.at);
-    Carried {
-        state: state,
+    let at = make_room(output, out, session.at);
+    let reply = answer(line, gathered, lines, session.hand, out, at);
+    let hand = reply.hand;
+    Session {
+        hand: hand,
         lines: lines,
         kept: 0,
         total: 0,
-        at: at,
+        at: reply.at,
     }
 }
 
 // Answers the line if it has ended.
-fn end_line_if(ended: bool, output: i32, line: &[u8], out: &mut [u8], carried: Carried) -> Carried
-    requires { ⌜ carried .kept ≤ length (now line) ⌝ }
-    ensures { λ r. ⌜ r .kept ≤ length (now (line .entry)) ⌝ }
+fn end_line_if(ended: bool, output: i32, line: &[u8], out: &mut [u8], session: Session) -> Session
+    requires { ⌜ Keeps session (now line) (now out) ⌝ }
+    ensures { λ r. ⌜ Keeps r (now (line .entry)) (now (out .exit)) ⌝ }
 {
     if ended {
-        return end_line(output, line, out, carried);
+        return end_line(output, line, out, session);
     }
-    carried
+    session
 }
 
 // The index of the next line feed, or the length where there is none.
@@ -115,16 +113,16 @@ fn feed_after(block: &[u8], from: usize) -> usize
     i
 }
 
-fn add(bytes: &[u8], line: &mut [u8], carried: Carried) -> Carried
-    requires { ⌜ carried .kept ≤ length (now line) ⌝ }
-    ensures { λ r. ⌜ r .kept ≤ length (now (line .entry)) ⌝ }
+fn add(bytes: &[u8], line: &mut [u8], session: Session) -> Session
+    requires { ⌜ session .kept ≤ length (now line) ⌝ }
+    ensures { λ r. ⌜ (r .kept ≤ length (now (line .entry))) × (r .at ≡ session .at) ⌝ }
 {
     let gathered = Gathered {
-        kept: carried.kept,
-        total: carried.total,
+        kept: session.kept,
+        total: session.total,
     };
     let more = gather(bytes, line, gathered);
-    let mut next = carried;
+    let mut next = session;
     next.kept = more.kept;
     next.total = more.total;
     next
@@ -136,12 +134,12 @@ fn take_block(
     block: &[u8],
     line: &mut [u8],
     out: &mut [u8],
-    carried: Carried,
-) -> Carried
-    requires { ⌜ carried .kept ≤ length (now line) ⌝ }
-    ensures { λ r. ⌜ r .kept ≤ length (now (line .entry)) ⌝ }
+    session: Session,
+) -> Session
+    requires { ⌜ Keeps session (now line) (now out) ⌝ }
+    ensures { λ r. ⌜ Keeps r (now (line .exit)) (now (out .exit)) ⌝ }
 {
-    let mut next = carried;
+    let mut next = session;
     let mut from = 0;
     while from < block.len() {
         let to = feed_after(block, from);
@@ -153,10 +151,10 @@ fn take_block(
 }
 
 // Answers a last line without a line feed.
-fn finish(output: i32, line: &[u8], out: &mut [u8], carried: Carried)
-    requires { ⌜ carried .kept ≤ length (now line) ⌝ }
+fn finish(output: i32, line: &[u8], out: &mut [u8], session: Session)
+    requires { ⌜ Keeps session (now line) (now out) ⌝ }
 {
-    let last = end_line_if(0 < carried.total, output, line, out, carried);
+    let last = end_line_if(0 < session.total, output, line, out, session);
     flush(output, out, last.at);
 }
 
@@ -184,7 +182,7 @@ pub fn run(input: i32, output: i32) {
     let line: &mut [u8] = &mut line_space;
     let mut out_space = io::large_buffer();
     let out: &mut [u8] = &mut out_space;
-    let mut carried = begin();
+    let mut session = begin();
     // A proved loop has to end, and nothing says that the input does: this counts down from more reads than any run makes.
     let mut turns = 18446744073709551615u64;
     while 0 < turns {
@@ -192,10 +190,10 @@ pub fn run(input: i32, output: i32) {
         if n == 0 {
             break;
         }
-        carried = take_block(output, &block[..n], line, out, carried);
-        let at = flush(output, out, carried.at);
-        carried.at = at;
+        session = take_block(output, &block[..n], line, out, session);
+        let at = flush(output, out, session.at);
+        session.at = at;
         turns -= 1;
     }
-    finish(output, line, out, carried);
+    finish(output, line, out, session);
 }

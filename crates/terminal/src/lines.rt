@@ -1,24 +1,17 @@
 // A line, gathered from the input, and what it answers.
 ghost use mathlib.Core.Path.{_≡_};
-ghost use Prim.Native.Nat.{_≤_};
+ghost use Prim.Native.Nat.{_-_, _≤_};
 ghost use lib.ListN.{length};
 ghost use Rattle.text.specs.Words.{wordsOf};
-ghost use Rattle.terminal.specs.Lines.{skippedOf, AnswersLine, AnswersWhole, AnswersEnded};
-use crate::answer::end_line;
-use crate::answer::less;
-use crate::answer::put_decimal;
-use crate::calls::call;
-use answers::old_calls::Reply;
-use answers::old_calls::replied;
-use commands::Parsed;
+ghost use Rattle.terminal.specs.Lines.{skippedOf, AnswersWhole, AnswersEnded};
+use answers::replies::Hand;
+use answers::replies::Reply;
+use answers::replies::replied;
 use commands::Reason;
-use commands::parse_line;
-use commands::put_usage;
-use rules::State;
+use dispatch::refuse;
 use text::line::Word;
 use text::line::is_blank;
 use text::line::next_word;
-use text::put::put;
 
 // The most bytes of a line that is a call.
 const LONGEST: usize = 4096;
@@ -91,54 +84,11 @@ fn is_skipped(line: &[u8]) -> bool
     }
 }
 
-fn put_word(place: u32, out: &mut [u8], at: usize) -> usize {
-    let word = put(b"word ", out, at);
-    put_decimal(place, out, word)
-}
-
-fn put_words_reason(place: usize, out: &mut [u8], at: usize) -> usize {
-    let expected = put(b"wrong number of words, expected: ", out, at);
-    put_usage(place, out, expected)
-}
-
-fn put_number_reason(place: u32, out: &mut [u8], at: usize) -> usize {
-    let word = put_word(place, out, at);
-    put(b" is not a number", out, word)
-}
-
-fn put_size_reason(place: u32, most: u32, out: &mut [u8], at: usize) -> usize {
-    let word = put_word(place, out, at);
-    let large = put(b" is too large, at most ", out, word);
-    put_decimal(most, out, large)
-}
-
-fn put_reason(reason: Reason, out: &mut [u8], at: usize) -> usize {
-    match reason {
-        Reason::UnknownCommand => put(b"unknown command", out, at),
-        Reason::WordCount(place) => put_words_reason(place, out, at),
-        Reason::NotNumber(place) => put_number_reason(place, out, at),
-        Reason::TooLarge(place, most) => put_size_reason(place, most, out, at),
-        Reason::LineTooLong => put(b"line too long, at most 4096 bytes", out, at),
-    }
-}
-
-fn put_error(reason: Reason, number: u32, out: &mut [u8], at: usize) -> usize {
-    let error = put(b"error: line ", out, at);
-    let counted = put_decimal(number, out, error);
-    let colon = put(b": ", out, counted);
-    let end = put_reason(reason, out, colon);
-    end_line(out, end)
-}
-
-fn answer_call(line: &[u8], number: u32, state: State, out: &mut [u8], at: usize) -> Reply
-    ensures { λ r. ⌜ AnswersLine state at (now (out .entry)) (now (out .exit)) r (now (line .entry)) ⌝ }
+// How much a is above b, or 0.
+fn above(a: usize, b: usize) -> usize
+    ensures { λ r. ⌜ r ≡ a - b ⌝ }
 {
-    let mut values = [0u32; 68];
-    let parsed = parse_line(line, &mut values);
-    match parsed {
-        Parsed::Wrong(reason) => replied(state, put_error(reason, number, out, at)),
-        Parsed::Call(verb) => call(verb, state, &values, out, at),
-    }
+    if b < a { a - b } else { 0 }
 }
 
 // The answer to a line, of which the bytes that count are given, and how long it was with those that are not kept.
@@ -146,19 +96,19 @@ fn answer_line(
     line: &[u8],
     long: usize,
     number: u32,
-    state: State,
+    hand: Hand,
     out: &mut [u8],
     at: usize,
 ) -> Reply
-    ensures { λ r. ⌜ AnswersWhole state at (now (out .entry)) (now (out .exit)) r long (now (line .entry)) ⌝ }
+    ensures { λ r. ⌜ AnswersWhole hand at (now (out .entry)) (now (out .exit)) r long (now (line .entry)) ⌝ }
 {
     if is_skipped(line) {
-        return replied(state, at);
+        return replied(hand, at);
     }
     if LONGEST < long {
-        return replied(state, put_error(Reason::LineTooLong, number, out, at));
+        return refuse(Reason::LineTooLong, number, hand, out, at);
     }
-    answer_call(line, number, state, out, at)
+    dispatch::answer(line, number, hand, out, at)
 }
 
 // The answer to a line that has ended.
@@ -166,15 +116,15 @@ pub fn answer(
     line: &[u8],
     gathered: Gathered,
     number: u32,
-    state: State,
+    hand: Hand,
     out: &mut [u8],
     at: usize,
 ) -> Reply
     requires { ⌜ gathered .kept ≤ length (now line) ⌝ }
-    ensures { λ r. ⌜ AnswersEnded state at (now (out .entry)) (now (out .exit)) r (gathered .kept) (gathered .total) (now (line .entry)) ⌝ }
+    ensures { λ r. ⌜ AnswersEnded hand at (now (out .entry)) (now (out .exit)) r (gathered .kept) (gathered .total) (now (line .entry)) ⌝ }
 {
     let kept = gathered.kept;
     let counted = text::line::end(&line[..kept]);
-    let long = less(gathered.total, less(kept, counted));
-    answer_line(&line[..counted], long, number, state, out, at)
+    let long = above(gathered.total, above(kept, counted));
+    answer_line(&line[..counted], long, number, hand, out, at)
 }

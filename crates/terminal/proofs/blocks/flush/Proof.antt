@@ -5,11 +5,8 @@ use borrow.Author.Needs.{needs}
 use Rattle.terminal.proofs.blocks.flush.Statement.{statement}
 use Rattle.terminal.proofs.blocks.flush.Tie as tie
 
-least-requires : tie.Need-least-requires
-least-requires c κs = search needs
-
 slice-aggregate-write-all : tie.Need-slice-aggregate-write-all
-slice-aggregate-write-all c = sym (length-take-le _ _ (c .before .least .ensures))
+slice-aggregate-write-all c = sym (length-take-le _ _ (c .before .before .pre))
 
 write-all-requires : tie.Need-write-all-requires
 write-all-requires c κs = search needs
@@ -18,5 +15,4 @@ returns : tie.Need-returns
 returns c = search needs
 
 pub flush-spec : {M : Type 1} → statement M
-flush-spec =
-    tie.close (tie.spec least-requires slice-aggregate-write-all write-all-requires returns)
+flush-spec = tie.close (tie.spec slice-aggregate-write-all write-all-requires returns)

@@ -1,16 +1,15 @@
 -- `blocks::run` is safe and ends. Assumes nothing.
-use Prim.Native.Nat.{_≤_}
 use native.Mathlib.Omega.{arith}
-use lib.ListN.{length}
 use borrow.Author.Needs.{needs}
+use Rattle.terminal.specs.Sessions.{Keeps}
 use Rattle.terminal.proofs.blocks.run.Statement.{statement}
 use Rattle.terminal.proofs.blocks.run.Tie as tie
 
 abbrev Inv-loop : tie.InvT-loop
-Inv-loop input output block₀ line₀ out₀ carried₀ turns₀ block line out carried turns = carried .kept ≤ length line
+Inv-loop input output block₀ line₀ out₀ session₀ turns₀ block line out session turns = Keeps session line out
 
 abbrev μ-loop : tie.MeasureT-loop
-μ-loop input output block₀ line₀ out₀ carried₀ turns₀ block line out carried turns = turns
+μ-loop input output block₀ line₀ out₀ session₀ turns₀ block line out session turns = turns
 
 large-buffer-requires : tie.Need-large-buffer-requires Inv-loop μ-loop
 large-buffer-requires c κs = search needs
@@ -18,11 +17,11 @@ large-buffer-requires c κs = search needs
 slice-aggregate-block : tie.Need-slice-aggregate-block Inv-loop μ-loop
 slice-aggregate-block c = search needs
 
-slice-aggregate-line : tie.Need-slice-aggregate-line Inv-loop μ-loop
-slice-aggregate-line c = search needs
-
 line-buffer-requires : tie.Need-line-buffer-requires Inv-loop μ-loop
 line-buffer-requires c κs = search needs
+
+slice-aggregate-line : tie.Need-slice-aggregate-line Inv-loop μ-loop
+slice-aggregate-line c = search needs
 
 large-buffer-requires-2 : tie.Need-large-buffer-requires-2 Inv-loop μ-loop
 large-buffer-requires-2 c κs = search needs
@@ -34,7 +33,12 @@ begin-requires : tie.Need-begin-requires Inv-loop μ-loop
 begin-requires c κs = search needs
 
 loop-holds : tie.Need-loop-holds Inv-loop μ-loop
-loop-holds c = omega (arith, c .begin .ensures)
+loop-holds c =
+    record {
+      line-within = omega (arith, c .begin .ensures);
+      answers-within = omega (arith, c .begin .ensures);
+      roomy = omega arith;
+    }
 
 read-block-requires : tie.Need-read-block-requires Inv-loop μ-loop
 read-block-requires c κs = search needs
@@ -49,7 +53,7 @@ take-block-requires : tie.Need-take-block-requires Inv-loop μ-loop
 take-block-requires c κs = c .before .before .before .before .before .before .before .before .before .loop .inv
 
 flush-requires : tie.Need-flush-requires Inv-loop μ-loop
-flush-requires c κs = search needs
+flush-requires c κs = c .before .before .before .before .before .take-block .ensures .answers-within
 
 sub-turns : tie.Need-sub-turns Inv-loop μ-loop
 sub-turns c = search needs
@@ -59,8 +63,12 @@ loop-less c = search needs
 
 loop-again : tie.Need-loop-again Inv-loop μ-loop
 loop-again c =
-    let taken = c .before .before .before .before .before .before .take-block in
-    omega (arith, taken .ensures, taken .kept .1 .1 .0)
+    let keeps = c .before .before .before .before .before .before .take-block .ensures in
+    record {
+      line-within = keeps .line-within;
+      answers-within = omega (arith, c .flush .ensures);
+      roomy = keeps .roomy;
+    }
 
 finish-requires : tie.Need-finish-requires Inv-loop μ-loop
 finish-requires c κs = c .before .before .loop .inv

@@ -1,14 +1,15 @@
 -- `blocks::take_block` meets its contract. Assumes nothing.
-use Prim.Native.Nat.{_-_, _≤_}
+use Prim.Native.Nat.{_-_}
 use mathlib.Core.Path.{_≡_, refl, _∙_}
 use native.Mathlib.Omega.{arith}
 use lib.ListN.{length}
+use Rattle.terminal.specs.Sessions.{Keeps}
 use Rattle.terminal.proofs.blocks.take_block.Statement.{statement}
 use Rattle.terminal.proofs.blocks.take_block.Tie as tie
 
 abbrev Inv-loop : tie.InvT-loop
 Inv-loop output block line₀ out₀ next₀ from₀ line out next from =
-    (length line ≡ length line₀) × (length out ≡ length out₀) × (next .kept ≤ length line)
+    (length line ≡ length line₀) × (length out ≡ length out₀) × Keeps next line out
 
 abbrev μ-loop : tie.MeasureT-loop
 μ-loop output block line₀ out₀ next₀ from₀ line out next from = length block - from
@@ -29,23 +30,38 @@ part-add-end : tie.Need-part-add-end Inv-loop μ-loop
 part-add-end c = omega arith
 
 add-requires : tie.Need-add-requires Inv-loop μ-loop
-add-requires c κs = c .before .before .before .before .loop .inv .2
+add-requires c κs = c .before .before .before .before .loop .inv .2 .line-within
+
+-- the turn of the loop that a part of the block was added in
+abbrev turn : tie.After-add Inv-loop μ-loop → tie.At-loop Inv-loop μ-loop
+turn c = c .before .before .before .before .before
 
 end-line-if-requires : tie.Need-end-line-if-requires Inv-loop μ-loop
-end-line-if-requires c κs = omega (arith, c .before .before .before .before .add .ensures, c .before .before .before .before .add .kept .1 .0)
+end-line-if-requires c κs =
+    let add = c .before .before .before .before in
+    let keeps = turn add .loop .inv .2 in
+    record {
+      line-within = omega (arith, add .add .ensures .0, add .add .kept .1 .0);
+      answers-within = omega (arith, add .add .ensures .1, keeps .answers-within);
+      roomy = keeps .roomy;
+    }
 
 add-from : tie.Need-add-from Inv-loop μ-loop
-add-from c = omega (arith, c .before .before .before .before .before .before .before .before .before .before .feed-after .ensures, c .before .before .before .before .before .before .before .before .before .before .before .before .before .before .before .before .good .1 .0)
+add-from c =
+    let add = c .before .before .before .before .before .before .before in
+    omega (arith, add .before .before .before .feed-after .ensures, turn add .before .before .before .before .good .1 .0)
 
 loop-less : tie.Need-loop-less Inv-loop μ-loop
-loop-less c = omega (arith, c .before .before .before .before .before .before .before .before .before .before .feed-after .ensures, c .before .before .before .before .before .before .before .before .before .before .before .loop-test .taken)
+loop-less c =
+    let add = c .before .before .before .before .before .before .before in
+    omega (arith, add .before .before .before .feed-after .ensures, add .before .before .before .before .loop-test .taken)
 
 loop-again : tie.Need-loop-again Inv-loop μ-loop
 loop-again c =
-    let loop = c .before .before .before .before .before .before .before .before .before .before .before .before .loop in
-    let add = c .before .before .before .before .before .before .before .add in
+    let add = c .before .before .before .before .before .before .before in
+    let loop = turn add .loop in
     let ended = c .before .before .end-line-if in
-    (add .kept .1 .0 ∙ loop .inv .0, ended .kept .1 .1 .1 .0 ∙ loop .inv .1, ended .ensures)
+    (add .add .kept .1 .0 ∙ loop .inv .0, ended .kept .1 .1 .1 .0 ∙ loop .inv .1, ended .ensures)
 
 same-length : tie.Need-same-length Inv-loop μ-loop
 same-length c = c .before .loop .inv .0
@@ -54,7 +70,7 @@ same-length-2 : tie.Need-same-length-2 Inv-loop μ-loop
 same-length-2 c = c .before .loop .inv .1
 
 returns : tie.Need-returns Inv-loop μ-loop
-returns c = omega arith
+returns c = c .before .loop .inv .2
 
 pub take-block-spec : {M : Type 1} → statement M
 take-block-spec =

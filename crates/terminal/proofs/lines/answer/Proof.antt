@@ -14,17 +14,18 @@ slice-aggregate-end c = sym (length-take-le _ _ (c .before .before .before .pre)
 end-requires : tie.Need-end-requires
 end-requires c κs = search needs
 
-less-requires : tie.Need-less-requires
-less-requires c κs = search needs
+above-requires : tie.Need-above-requires
+above-requires c κs = search needs
 
-less-requires-2 : tie.Need-less-requires-2
-less-requires-2 c κs = search needs
+above-requires-2 : tie.Need-above-requires-2
+above-requires-2 c κs = search needs
 
 slice-aggregate-answer-line : tie.Need-slice-aggregate-answer-line
 slice-aggregate-answer-line c =
-    let start = c .before .before .before .before .before .before .before in
+    let end = c .before .before .before in
+    let start = end .before .before .before .before in
     let kept = take (start .args .gathered .kept) (start .args .line .now) in
-    sym (length-take-le _ _ (omega (arith, start .pre, c .before .before .before .end .ensures, counted-within kept, length-take (start .args .gathered .kept) (start .args .line .now))))
+    sym (length-take-le _ _ (omega (arith, start .pre, end .end .ensures, counted-within kept, length-take (start .args .gathered .kept) (start .args .line .now))))
 
 answer-line-requires : tie.Need-answer-line-requires
 answer-line-requires c κs = search needs
@@ -34,7 +35,9 @@ same-length c = search needs
 
 returns : tie.Need-returns
 returns c =
-    rw (c .before .before .before .before .before .less2 .ensures, c .before .before .before .before .before .before .less .ensures, c .before .before .before .before .before .before .before .end .ensures) at (c .before .before .answer-line .ensures)
+    let line = c .before .before in
+    let above = line .before .before .before in
+    rw (above .above2 .ensures, above .before .above .ensures, above .before .before .end .ensures) at (line .answer-line .ensures)
 
 pub answer-spec : {M : Type 1} → statement M
 answer-spec =
@@ -42,8 +45,8 @@ answer-spec =
     (tie.spec
     slice-aggregate-end
     end-requires
-    less-requires
-    less-requires-2
+    above-requires
+    above-requires-2
     slice-aggregate-answer-line
     answer-line-requires
     same-length

@@ -19,39 +19,43 @@ returns c =
       skipped = λ _. (c .replied .ensures .0, c .replied .ensures .1, refl);
       too-long = λ no l. absurd (false≢true (sym no ∙ yes));
       answered = λ no l. absurd (false≢true (sym no ∙ yes));
+      within = omega (arith, c .replied .ensures .1);
     }
 
-put-error-requires : tie.Need-put-error-requires
-put-error-requires c κs = search needs
-
-replied-requires-2 : tie.Need-replied-requires-2
-replied-requires-2 c κs = search needs
+refuse-requires : tie.Need-refuse-requires
+refuse-requires c κs = search needs
 
 same-length : tie.Need-same-length
 same-length c = search needs
 
 returns-2 : tie.Need-returns-2
 returns-2 c =
-    let no = sym (c .before .before .before .before .before .before .before .is-skipped .ensures) ∙ c .before .before .before .before .before .before .if1 .left in
+    let long = c .before .before .before .before in
+    let no = sym (long .before .before .is-skipped .ensures) ∙ long .before .if1 .left in
+    let refuse = c .before .before .refuse in
     record {
       skipped = λ yes. absurd (false≢true (sym no ∙ yes));
-      too-long = λ _ l. c .replied2 .ensures .0;
-      answered = λ _ l. absurd (omega (arith, c .before .before .before .before .before .if2 .taken));
+      too-long = λ _ l. refuse .ensures;
+      answered = λ _ l. absurd (omega (arith, long .if2 .taken));
+      within = omega (arith, refuse .ensures .1 .within);
     }
 
-answer-call-requires : tie.Need-answer-call-requires
-answer-call-requires c κs = search needs
+answer-requires : tie.Need-answer-requires
+answer-requires c κs = search needs
 
 same-length-2 : tie.Need-same-length-2
 same-length-2 c = search needs
 
 returns-3 : tie.Need-returns-3
 returns-3 c =
-    let no = sym (c .before .before .before .before .before .before .is-skipped .ensures) ∙ c .before .before .before .before .before .if1 .left in
+    let short = c .before .before .before .before in
+    let no = sym (short .before .before .is-skipped .ensures) ∙ short .before .if1 .left in
+    let answered = c .before .before .answer in
     record {
       skipped = λ yes. absurd (false≢true (sym no ∙ yes));
-      too-long = λ _ l. absurd (omega (arith, c .before .before .before .before .if2 .left));
-      answered = λ _ l. c .before .before .answer-call .ensures;
+      too-long = λ _ l. absurd (omega (arith, short .if2 .left));
+      answered = λ _ l. answered .ensures .0;
+      within = answered .ensures .1;
     }
 
 pub answer-line-spec : {M : Type 1} → statement M
@@ -61,10 +65,9 @@ answer-line-spec =
     is-skipped-requires
     replied-requires
     returns
-    put-error-requires
-    replied-requires-2
+    refuse-requires
     same-length
     returns-2
-    answer-call-requires
+    answer-requires
     same-length-2
     returns-3)

@@ -1,0 +1,69 @@
+// A line's command, and the function that answers it.
+ghost use Prim.Native.Nat.{_+_, _≤_};
+ghost use Rattle.dispatch.specs.Answers.{longestError, longestAnswer, Shows, Answers, AnswersLine};
+use answers::replies::Hand;
+use answers::replies::Reply;
+use answers::replies::cabin_reply;
+use answers::replies::dump_reply;
+use answers::replies::fan_fail_reply;
+use answers::replies::load_reply;
+use answers::replies::pin_reply;
+use answers::replies::read_reply;
+use answers::replies::replied;
+use answers::replies::speed_reply;
+use answers::replies::start_reply;
+use answers::replies::tach_reply;
+use answers::replies::ticks_reply;
+use answers::replies::write_reply;
+use chart::put_chart;
+use commands::Parsed;
+use commands::Reason;
+use commands::Verb;
+use commands::parse_line;
+use display::errors::put_error;
+use display::help::put_help;
+use display::show::put_show;
+use image::STATE_NUMBERS;
+use image::value;
+
+// Answers a command with the numbers of its line.
+fn reply_to(verb: Verb, hand: Hand, values: &[u32], out: &mut [u8], at: usize) -> Reply
+    ensures { λ r. ⌜ Answers hand at (now (out .entry)) (now (out .exit)) r verb (now (values .entry)) ⌝ }
+{
+    match verb {
+        Verb::Start => start_reply(hand, values, out, at),
+        Verb::Write => write_reply(hand, values, out, at),
+        Verb::Read => read_reply(hand, values, out, at),
+        Verb::Ticks => ticks_reply(hand, values, out, at),
+        Verb::Tach => tach_reply(hand, values, out, at),
+        Verb::Pin => pin_reply(hand, values, out, at),
+        Verb::Cabin => cabin_reply(hand, out, at),
+        Verb::FanFail => fan_fail_reply(hand, out, at),
+        Verb::Speed => speed_reply(hand, values, out, at),
+        Verb::Dump => dump_reply(hand, out, at),
+        Verb::Load => load_reply(hand, values, out, at),
+        Verb::Show => replied(hand, put_show(hand.state, out, at)),
+        Verb::Chart => replied(hand, put_chart(hand.state, value(values, 0), out, at)),
+        Verb::Help => replied(hand, put_help(out, at)),
+    }
+}
+
+// Says why a line, counted from 1, is no call.
+pub fn refuse(reason: Reason, number: u32, hand: Hand, out: &mut [u8], at: usize) -> Reply
+    ensures { λ r. ⌜ Shows hand at (now (out .entry)) (now (out .exit)) r longestError ⌝ }
+{
+    replied(hand, put_error(reason, number, out, at))
+}
+
+// Answers a line as the command that it is.
+pub fn answer(line: &[u8], number: u32, hand: Hand, out: &mut [u8], at: usize) -> Reply
+    ensures { λ r. ⌜ AnswersLine hand at (now (out .entry)) (now (out .exit)) r (now (line .entry)) ⌝ }
+    ensures { λ r. ⌜ r .at ≤ at + longestAnswer ⌝ }
+{
+    let mut values = [0u32; STATE_NUMBERS];
+    let parsed = parse_line(line, &mut values);
+    match parsed {
+        Parsed::Wrong(reason) => refuse(reason, number, hand, out, at),
+        Parsed::Call(verb) => reply_to(verb, hand, &values, out, at),
+    }
+}
