@@ -2,7 +2,7 @@
 ghost use Prim.Native.Nat.{_+_, _*_, _≤_, max};
 ghost use lib.ListN.{length};
 ghost use Rattle.text.specs.Frame.{Frame};
-use text::decimal::put_column;
+use text::decimal::put_digits;
 use text::fraction::put_512ths;
 use text::put::put;
 
@@ -20,6 +20,31 @@ pub fn put_either(first: bool, one: &[u8], other: &[u8], out: &mut [u8], at: usi
         return put_text(one, out, at);
     }
     put_text(other, out, at)
+}
+
+// Where a column begins that ends after ten spaces and the digits of a number: so many places before, and no later than the
+// digits.
+fn column_start(end: usize, width: usize) -> usize
+    requires { ⌜ (10 ≤ end) × (end ≤ 20) ⌝ }
+    ensures { λ r. ⌜ (r ≤ end) × (end ≤ r + 10) ⌝ }
+{
+    if 10 < width {
+        return end - 10;
+    }
+    if end - width < 10 {
+        return end - width;
+    }
+    10
+}
+
+// Puts a number with spaces in front of it up to so many places, ten at most.
+fn put_column(n: u32, width: usize, out: &mut [u8], at: usize) -> usize
+    ensures { λ r. ⌜ Frame 10 at (now (out .entry)) (now (out .exit)) r ⌝ }
+{
+    let mut places = [b' '; 20];
+    let end = put_digits(n, 1, &mut places, 10);
+    let from = column_start(end, width);
+    put(&places[from..end], out, at)
 }
 
 // Past the bytes of a form from an index on that are places of a number, or past those that are not.

@@ -1,7 +1,7 @@
 -- An f64 that is a number of 512ths exactly: a number divided by 512 is exact below 2 ^ 53, so comparing with it counts them.
 use Prim.Native.Nat.{ℕ, zero, suc, _+_, _-_, _*_, _^_, _≤_, _<_}
 use mathlib.Core.Path.{_≡_, sym, _∙_}
-use mathlib.Core.Bool.{true, false, cond, _&&_, _||_}
+use mathlib.Core.Bool.{true, false, _&&_, _||_}
 use native.Mathlib.Nat.{two-pow-succ, mul-comm, mul-assoc, mul-right-comm, mul-pos, mul-lt-mul-of-pos-right, mul-le-mul-right}
 use native.Mathlib.Decide.{decLt}
 use native.Mathlib.Omega.{arith}
@@ -11,6 +11,7 @@ use lib.Ieee.{Float, nan, inf, fin, up, down, le, lt, eq}
 use lib.Ieee.Exact.{HasValue}
 use lib.Ieee.Fits.{down-pos}
 use borrow.Author.Tests.{lt-ltb, le-ltb, le-leb, lt-leb, eq-eqb, ne-eqb}
+use Rattle.rules.specs.Basics.{if_then_else_}
 use Rattle.rules.specs.Reading.{over512}
 use Rattle.laws.proofs.Exact.{over-512-exact}
 use Rattle.text.specs.Fraction.{partsAfter, partsOf}
@@ -56,7 +57,7 @@ in-order (fin s m e) (fin t n f) a b d some v w =
 
 -- ---- counting
 parts-turn : (bit n : ℕ) (x : Float) → 0 < bit →
-    partsAfter bit n x ≡ partsAfter (bit - 1) (cond (le (over512 (n + 2 ^ (bit - 1))) x) (n + 2 ^ (bit - 1)) n) x
+    partsAfter bit n x ≡ partsAfter (bit - 1) (if le (over512 (n + 2 ^ (bit - 1))) x then n + 2 ^ (bit - 1) else n) x
 unfolding partsAfter
 parts-turn zero n x h = absurd (omega arith)
 parts-turn (suc bit) n x h = let e : suc bit - 1 ≡ bit = omega arith in rw e

@@ -1,10 +1,11 @@
 -- The words of a line.
 use Prim.Native.Nat.{ℕ, suc, _-_, _≤_, _<_}
 use mathlib.Core.Path.{_≡_}
-use mathlib.Core.Bool.{Bool, true, Bool·beq, cond, _||_}
+use mathlib.Core.Bool.{Bool, true, Bool·beq, _||_}
 use mathlib.Core.List.{List, [], _∷_}
 use lib.ListN.{length, getD, take, drop}
 use lib.Dec.{eqb}
+use Rattle.rules.specs.Basics.{if_then_else_}
 use Rattle.text.specs.declared.line.Word.{Word}
 use Rattle.text.specs.declared.line.Word.the-variants.{At, Nothing}
 
@@ -26,13 +27,14 @@ lengthened byte (word ∷ words) = (byte ∷ word) ∷ words
 unfoldable pub wordsOf : List ℕ → List (List ℕ)
 wordsOf [] = []
 wordsOf (byte ∷ line) =
-    cond (isBlank byte) (wordsOf line)
-    (cond (parted line) ((byte ∷ []) ∷ wordsOf line) (lengthened byte (wordsOf line)))
+    if isBlank byte then wordsOf line
+    else if parted line then (byte ∷ []) ∷ wordsOf line
+    else lengthened byte (wordsOf line)
 
 -- how many bytes a line begins with that are blank; or that are not
 unfoldable pub runOf : Bool → List ℕ → ℕ
 runOf blank [] = 0
-runOf blank (byte ∷ line) = cond (Bool·beq (isBlank byte) blank) (suc (runOf blank line)) 0
+runOf blank (byte ∷ line) = if Bool·beq (isBlank byte) blank then suc (runOf blank line) else 0
 
 -- the words that begin with the one that was found
 abbrev pub wordsFrom : List ℕ → Word → List (List ℕ)
@@ -51,4 +53,4 @@ pub record Finds (line : List ℕ) (from : ℕ) (word : Word) : Type 0 where
 
 -- "A carriage return before the line's end is ignored": how many bytes of a line count
 unfoldable pub counted : List ℕ → ℕ
-counted line = cond (eqb (getD line (length line - 1) 0) 13) (length line - 1) (length line)
+counted line = if eqb (getD line (length line - 1) 0) 13 then length line - 1 else length line

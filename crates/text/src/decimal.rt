@@ -1,9 +1,8 @@
 // A number as decimal digits.
 ghost use mathlib.Core.Path.{_≡_};
-ghost use Prim.Native.Nat.{_+_, _-_, _<_, _≤_};
+ghost use Prim.Native.Nat.{_-_, _≤_};
 ghost use lib.ListN.{length, drop};
 ghost use Rattle.text.specs.Put.{Put};
-ghost use Rattle.text.specs.Frame.{Frame};
 ghost use Rattle.text.specs.Decimal.{digitsOf, decimalOf};
 use crate::put::put;
 
@@ -11,13 +10,6 @@ fn one_less(n: u32) -> u32
     ensures { λ r. ⌜ r ≡ n - 1 ⌝ }
 {
     if 0 < n { n - 1 } else { 0 }
-}
-
-fn glyph(digit: u32) -> u8
-    requires { ⌜ digit < 10 ⌝ }
-    ensures { λ r. ⌜ r ≡ 48 + digit ⌝ }
-{
-    48 + digit as u8
 }
 
 // Puts a number's digits at the end of ten bytes, and gives the index of the first.
@@ -35,7 +27,7 @@ fn spell(n: u32, least: u32, digits: &mut [u8]) -> usize
             }
         }
         from -= 1;
-        digits[from] = glyph(rest % 10);
+        digits[from] = 48 + (rest % 10) as u8;
         rest /= 10;
         owed = one_less(owed);
     }
@@ -56,28 +48,4 @@ pub fn put_decimal(n: u32, out: &mut [u8], at: usize) -> usize
     ensures { λ r. ⌜ Put (decimalOf n) at (now (out .entry)) (now (out .exit)) r ⌝ }
 {
     put_digits(n, 1, out, at)
-}
-
-// Where so many of ten places begin, or the digits where they begin before.
-fn column_start(digits: usize, width: usize) -> usize
-    ensures { λ r. ⌜ r ≤ digits ⌝ }
-{
-    if 10 <= width {
-        return 0;
-    }
-    let start = 10 - width;
-    if digits < start {
-        return digits;
-    }
-    start
-}
-
-// Puts a number for a person, with spaces in front up to so many places, ten at most.
-pub fn put_column(n: u32, width: usize, out: &mut [u8], at: usize) -> usize
-    ensures { λ r. ⌜ Frame 10 at (now (out .entry)) (now (out .exit)) r ⌝ }
-{
-    let mut places = [b' '; 10];
-    let digits = spell(n, 1, &mut places);
-    let from = column_start(digits, width);
-    put(&places[from..], out, at)
 }

@@ -23,27 +23,21 @@ fn digit(byte: u8) -> u64
         return 16;
     }
     if byte <= b'9' {
-        return wide(byte) - 48;
+        return byte as u64 - 48;
     }
     if byte < b'A' {
         return 16;
     }
     if byte <= b'F' {
-        return wide(byte) - 55;
+        return byte as u64 - 55;
     }
     if byte < b'a' {
         return 16;
     }
     if byte <= b'f' {
-        return wide(byte) - 87;
+        return byte as u64 - 87;
     }
     16
-}
-
-fn wide(byte: u8) -> u64
-    ensures { λ r. ⌜ r ≡ byte ⌝ }
-{
-    byte as u64
 }
 
 fn least(a: u64, b: u64) -> u64

@@ -4,7 +4,7 @@ use mathlib.Core.Path.{_≡_, refl}
 use native.Mathlib.Omega.{arith}
 use lib.ListN.{take, drop, length-drop}
 use lib.Seq.{take-all}
-use borrow.Author.Needs.{needs}
+use Rattle.text.proofs.Stores.{put-length}
 use Rattle.text.proofs.decimal.put_digits.Statement.{statement}
 use Rattle.text.proofs.decimal.put_digits.Tie as tie
 
@@ -26,9 +26,6 @@ part-put-end c = omega arith
 put-requires : tie.Need-put-requires
 put-requires c κs = tt
 
-same-length : tie.Need-same-length
-same-length c = search needs
-
 returns : tie.Need-returns
 returns c =
     let spelled = c .before .before .before .before .before .before .before .spell in
@@ -36,6 +33,9 @@ returns c =
     let whole : take (10 - spelled .result) (drop (spelled .result) digits) ≡ drop (spelled .result) digits =
     take-all (10 - spelled .result) (drop (spelled .result) digits) (rw length-drop (omega (arith, spelled .kept .1 .1 .0))) in
     rw (whole, spelled .ensures .1) at (c .before .before .put .ensures)
+
+same-length : tie.Need-same-length
+same-length c = put-length (returns c)
 
 pub put-digits-spec : {M : Type 1} → statement M
 put-digits-spec =

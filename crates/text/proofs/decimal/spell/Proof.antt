@@ -32,8 +32,11 @@ returns c =
 sub-from : tie.Need-sub-from Inv-loop μ-loop
 sub-from c = omega arith
 
-glyph-requires : tie.Need-glyph-requires Inv-loop μ-loop
-glyph-requires c κs = omega arith
+cast-digits : tie.Need-cast-digits Inv-loop μ-loop
+cast-digits c = omega arith
+
+add-digits : tie.Need-add-digits Inv-loop μ-loop
+add-digits c = omega arith
 
 slice-write-digits : tie.Need-slice-write-digits Inv-loop μ-loop
 slice-write-digits c = omega arith
@@ -49,11 +52,11 @@ one-owed c none last = ⊎-elim (λ w. w .1 .left last) (λ w. w .left none) (c 
 
 loop-again : tie.Need-loop-again Inv-loop μ-loop
 loop-again c =
-    let loop = c .before .before .before .before .loop in (
+    let loop = c .before .before .before .loop in (
       omega arith,
       rw length-set (loop .inv .1),
-      rw (c .one-less .ensures, c .before .glyph .ensures)
-          (digit-put (loop .digits) (loop .from) (loop .owed) (loop .rest) (omega arith) (omega arith) (one-owed (c .before .before)) ∙ loop .inv .2),
+      rw (c .one-less .ensures)
+          (digit-put (loop .digits) (loop .from) (loop .owed) (loop .rest) (omega arith) (omega arith) (one-owed (c .before)) ∙ loop .inv .2),
     )
 
 same-length-2 : tie.Need-same-length-2 Inv-loop μ-loop
@@ -75,7 +78,8 @@ spell-spec =
     same-length
     returns
     sub-from
-    glyph-requires
+    cast-digits
+    add-digits
     slice-write-digits
     one-less-requires
     loop-less

@@ -1,9 +1,8 @@
 -- `fraction::put_512ths` meets its contract. Assumes nothing.
 use native.Mathlib.Omega.{arith}
 use mathlib.Core.Path.{refl, sym}
-use borrow.Author.Needs.{needs}
 use Rattle.text.specs.Fraction.{nineDecimals}
-use Rattle.text.proofs.Stores.{put-append}
+use Rattle.text.proofs.Stores.{put-append, put-length}
 use Rattle.text.proofs.fraction.put_512ths.Statement.{statement}
 use Rattle.text.proofs.fraction.put_512ths.Tie as tie
 
@@ -25,9 +24,6 @@ mul-put-digits c = omega arith
 put-digits-requires-2 : tie.Need-put-digits-requires-2
 put-digits-requires-2 c κs = tt
 
-same-length : tie.Need-same-length
-same-length c = search needs
-
 returns : tie.Need-returns
 unfolding nineDecimals
 returns c =
@@ -35,6 +31,9 @@ returns c =
     let whole = point .before .before .before .before .before in
     rw (sym (whole .before .before .parts .ensures))
     (put-append (whole .put-digits .ensures) (put-append (point .put .ensures) (c .before .before .put-digits2 .ensures)))
+
+same-length : tie.Need-same-length
+same-length c = put-length (returns c)
 
 pub put-512ths-spec : {M : Type 1} → statement M
 put-512ths-spec =

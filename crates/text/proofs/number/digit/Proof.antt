@@ -1,6 +1,5 @@
 -- `number::digit` meets its contract. Assumes nothing.
 use native.Mathlib.Omega.{arith}
-use borrow.Author.Needs.{needs}
 use borrow.Author.Tests.{le-leb, lt-leb}
 use Rattle.text.specs.Number.{digitOf}
 use Rattle.text.proofs.number.digit.Statement.{statement}
@@ -12,17 +11,14 @@ returns c =
     let byte = c .before .args .byte in
     simp (lt-leb 48 byte (omega arith), lt-leb 65 byte (omega arith), lt-leb 97 byte (omega arith))
 
-wide-requires : tie.Need-wide-requires
-wide-requires c κs = tt
-
 sub-result : tie.Need-sub-result
 sub-result c = omega arith
 
 returns-2 : tie.Need-returns-2
 unfolding digitOf
 returns-2 c =
-    let byte = c .before .before .before .args .byte in
-    simp (le-leb 48 byte (omega arith), le-leb byte 57 (omega arith)) (search needs)
+    let byte = c .before .before .args .byte in
+    simp (le-leb 48 byte (omega arith), le-leb byte 57 (omega arith))
 
 returns-3 : tie.Need-returns-3
 unfolding digitOf
@@ -30,17 +26,14 @@ returns-3 c =
     let byte = c .before .before .before .args .byte in
     simp (le-leb 48 byte (omega arith), lt-leb byte 57 (omega arith), lt-leb 65 byte (omega arith), lt-leb 97 byte (omega arith))
 
-wide-requires-2 : tie.Need-wide-requires-2
-wide-requires-2 c κs = tt
-
 sub-result-2 : tie.Need-sub-result-2
 sub-result-2 c = omega arith
 
 returns-4 : tie.Need-returns-4
 unfolding digitOf
 returns-4 c =
-    let byte = c .before .before .before .before .before .args .byte in
-    simp (le-leb 48 byte (omega arith), lt-leb byte 57 (omega arith), le-leb 65 byte (omega arith), le-leb byte 70 (omega arith)) (search needs)
+    let byte = c .before .before .before .before .args .byte in
+    simp (le-leb 48 byte (omega arith), lt-leb byte 57 (omega arith), le-leb 65 byte (omega arith), le-leb byte 70 (omega arith))
 
 returns-5 : tie.Need-returns-5
 unfolding digitOf
@@ -48,17 +41,14 @@ returns-5 c =
     let byte = c .before .before .before .before .before .args .byte in
     simp (le-leb 48 byte (omega arith), lt-leb byte 57 (omega arith), le-leb 65 byte (omega arith), lt-leb byte 70 (omega arith), lt-leb 97 byte (omega arith))
 
-wide-requires-3 : tie.Need-wide-requires-3
-wide-requires-3 c κs = tt
-
 sub-result-3 : tie.Need-sub-result-3
 sub-result-3 c = omega arith
 
 returns-6 : tie.Need-returns-6
 unfolding digitOf
 returns-6 c =
-    let byte = c .before .before .before .before .before .before .before .args .byte in
-    simp (le-leb 48 byte (omega arith), lt-leb byte 57 (omega arith), le-leb 65 byte (omega arith), lt-leb byte 70 (omega arith), le-leb 97 byte (omega arith), le-leb byte 102 (omega arith)) (search needs)
+    let byte = c .before .before .before .before .before .before .args .byte in
+    simp (le-leb 48 byte (omega arith), lt-leb byte 57 (omega arith), le-leb 65 byte (omega arith), lt-leb byte 70 (omega arith), le-leb 97 byte (omega arith), le-leb byte 102 (omega arith))
 
 returns-7 : tie.Need-returns-7
 unfolding digitOf
@@ -71,15 +61,12 @@ digit-spec =
     tie.close
     (tie.spec
     returns
-    wide-requires
     sub-result
     returns-2
     returns-3
-    wide-requires-2
     sub-result-2
     returns-4
     returns-5
-    wide-requires-3
     sub-result-3
     returns-6
     returns-7)

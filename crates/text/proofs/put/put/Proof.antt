@@ -2,7 +2,6 @@
 use Prim.Native.Nat.{_-_}
 use native.Mathlib.Omega.{arith}
 use lib.ListN.{length, drop, length-drop}
-use borrow.Author.Needs.{needs}
 use Rattle.text.proofs.Stores.{Remains, all-remains, byte-put, bytes-done, past-end, at-end}
 use Rattle.text.proofs.put.put.Statement.{statement}
 use Rattle.text.proofs.put.put.Tie as tie
@@ -17,7 +16,7 @@ loop-holds : tie.Need-loop-holds Inv-loop μ-loop
 loop-holds c = all-remains _ _ _
 
 same-length : tie.Need-same-length Inv-loop μ-loop
-same-length c = search needs
+same-length c = c .before .before .before .loop .inv .long
 
 returns : tie.Need-returns Inv-loop μ-loop
 returns c = past-end _ (c .if2 .taken) (c .before .before .before .loop .inv)
@@ -26,7 +25,7 @@ add-result : tie.Need-add-result Inv-loop μ-loop
 add-result c = omega arith
 
 same-length-2 : tie.Need-same-length-2 Inv-loop μ-loop
-same-length-2 c = search needs
+same-length-2 c = c .before .before .before .loop .inv .long
 
 returns-2 : tie.Need-returns-2 Inv-loop μ-loop
 returns-2 c = at-end _ (rw length-drop (omega arith)) (omega arith) (c .before .before .before .loop .inv)
@@ -50,7 +49,7 @@ loop-again : tie.Need-loop-again Inv-loop μ-loop
 loop-again c = byte-put (c .before .before .before .loop .i) (c .before .before .before .loop .inv) (omega arith) (omega arith)
 
 same-length-3 : tie.Need-same-length-3 Inv-loop μ-loop
-same-length-3 c = search needs
+same-length-3 c = c .before .loop .inv .long
 
 returns-3 : tie.Need-returns-3 Inv-loop μ-loop
 returns-3 c = bytes-done (c .before .loop .i) (c .before .loop .inv) (omega arith)
