@@ -1,4 +1,2 @@
-pub mod Spaced
-pub mod Replying
 pub mod Spacing
 pub mod Telling

@@ -1,27 +1,20 @@
--- Numbers and parts that follow each other after spaces.
-use Prim.Native.Nat.{ℕ, _+_, _≤_, _<_}
-use mathlib.Core.Path.{_≡_, refl, ap}
-use mathlib.Core.List.{List, [], _∷_, _++_, append-assoc}
+-- Numbers and parts that follow each other after spaces, and how long they are.
+use Prim.Native.Nat.{ℕ, suc, _+_, _*_, _≤_, _<_}
+use mathlib.Core.Path.{_≡_}
+use mathlib.Core.List.{List, [], _∷_, _++_}
 use native.Mathlib.Numerals.{add-one}
 use native.Mathlib.Omega.{arith}
-use lib.ListN.{length, getD, drop, drop-of-length-le}
+use lib.ListN.{length, getD, drop, drop-of-length-le, length-append}
 use lib.Seq.{drop-cons}
 use lib.Ieee.{Float}
-use Rattle.rules.specs.declared.Channel.{Channel}
 use Rattle.text.specs.Decimal.{decimalOf}
 use Rattle.text.specs.Fraction.{partsOf, nineDecimals}
-use Rattle.answers.specs.Numbers.{spaced, answerLine}
-use Rattle.answers.specs.Image.{channelNumbers, channelsNumbers}
-use Rattle.answers.specs.Replies.{spacedParts}
-
-pub spaced-append : (a b : List ℕ) → spaced (a ++ b) ≡ spaced a ++ spaced b
-unfolding spaced
-spaced-append [] b = refl
-spaced-append (n ∷ a) b = ap (λ (l : List ℕ). 32 ∷ l) (rw (spaced-append a b, append-assoc))
+use Rattle.text.proofs.Lengths.{digits-length, nine-length}
+use Rattle.answers.specs.Numbers.{spaced, answerLine, lineMost, spacedParts}
 
 module _ (numbers : List ℕ) (i : ℕ) where
   pub spaced-next : i < length numbers →
-      spaced (drop i numbers) ≡ (32 ∷ []) ++ (decimalOf (getD numbers i 0) ++ spaced (drop (i + 1) numbers))
+      spaced (drop i numbers) ≡ (32 ∷ decimalOf (getD numbers i 0)) ++ spaced (drop (i + 1) numbers)
   unfolding spaced
   spaced-next h = rw (add-one, drop-cons numbers i 0 h)
 
@@ -31,7 +24,7 @@ module _ (numbers : List ℕ) (i : ℕ) where
 
 module _ (parts : List Float) (i : ℕ) (d : Float) where
   pub parts-next : i < length parts →
-      spacedParts (drop i parts) ≡ (32 ∷ []) ++ (nineDecimals (partsOf (getD parts i d)) ++ spacedParts (drop (i + 1) parts))
+      spacedParts (drop i parts) ≡ (32 ∷ nineDecimals (partsOf (getD parts i d))) ++ spacedParts (drop (i + 1) parts)
   unfolding spacedParts
   parts-next h = rw (add-one, drop-cons parts i d h)
 
@@ -39,29 +32,18 @@ module _ (parts : List Float) (i : ℕ) (d : Float) where
   unfolding spacedParts
   parts-end h = rw (drop-of-length-le parts h)
 
-module _ (channels : List Channel) (i : ℕ) (d : Channel) where
-  pub channels-next : i < length channels →
-      spaced (channelsNumbers (drop i channels)) ≡ spaced (channelNumbers (getD channels i d)) ++ spaced (channelsNumbers (drop (i + 1) channels))
-  unfolding channelsNumbers
-  channels-next h = rw (add-one, drop-cons channels i d h) (spaced-append (channelNumbers (getD channels i d)) _)
+-- ---- how long they are at most
 
-  pub channels-end : length channels ≤ i → spaced (channelsNumbers (drop i channels)) ≡ []
-  unfolding channelsNumbers spaced
-  channels-end h = rw (drop-of-length-le channels h)
+spaced-length : (numbers : List ℕ) → length (spaced numbers) ≤ length numbers * 11
+unfolding spaced
+spaced-length [] = omega arith
+spaced-length (n ∷ numbers) = rw length-append (omega (arith, digits-length 1 n, spaced-length numbers))
 
-module _ (numbers : List ℕ) where
-  pub line-none : length numbers ≡ 0 → answerLine numbers ≡ 10 ∷ []
-  unfolding answerLine
-  line-none e = rw (none numbers e)
-    where
-      none : (l : List ℕ) → length l ≡ 0 → l ≡ []
-      none [] q = refl
-      none (n ∷ l) q = absurd (omega arith)
+pub line-length : (n : ℕ) (numbers : List ℕ) → length (answerLine (n ∷ numbers)) ≤ lineMost (suc (length numbers))
+unfolding answerLine
+line-length n numbers = rw (length-append, length-append) (omega (arith, digits-length 1 n, spaced-length numbers))
 
-  pub line-some : 0 < length numbers → answerLine numbers ≡ decimalOf (getD numbers 0 0) ++ (spaced (drop 1 numbers) ++ (10 ∷ []))
-  unfolding answerLine
-  line-some h = some numbers h
-    where
-      some : (l : List ℕ) → 0 < length l → answerLine l ≡ decimalOf (getD l 0 0) ++ (spaced (drop 1 l) ++ (10 ∷ []))
-      some [] q = absurd (omega arith)
-      some (n ∷ l) q = refl
+pub parts-length : (parts : List Float) → length (spacedParts parts) ≤ length parts * 21
+unfolding spacedParts
+parts-length [] = omega arith
+parts-length (x ∷ parts) = rw length-append (omega (arith, nine-length (partsOf x), parts-length parts))

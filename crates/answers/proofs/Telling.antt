@@ -1,12 +1,41 @@
--- An answer put and a state given back, as a reply.
-use Prim.Native.Nat.{ℕ}
-use mathlib.Core.Path.{_≡_, _∙_}
-use mathlib.Core.List.{List}
-use Rattle.rules.specs.declared.State.{State}
+-- An answer put and something in hand, as a reply.
+use Prim.Native.Nat.{ℕ, _-_, _≤_}
+use mathlib.Core.Path.{_≡_, sym, _∙_}
+use mathlib.Core.List.{List, _∷_}
+use native.Mathlib.Omega.{arith}
+use lib.ListN.{length, getD, take, drop, length-drop, length-append}
+use lib.Seq.{take-all, drop-cons}
+use Rattle.rules.specs.declared.Reading.{Reading}
 use Rattle.text.specs.Put.{Put}
-use Rattle.answers.specs.declared.old_calls.Reply.{Reply}
-use Rattle.answers.specs.Replies.{Replies}
+use Rattle.text.proofs.Frames.{put-frame}
+use Rattle.text.proofs.Lengths.{digits-length}
+use Rattle.image.specs.Image.{numberCount, stateNumbers}
+use Rattle.answers.specs.declared.replies.Hand.{Hand}
+use Rattle.answers.specs.declared.replies.Reply.{Reply}
+use Rattle.answers.specs.Replies.{Replies, readingText, readingMost, cabinText, cabinMost, RepliesNumbers, Dumps}
+use Rattle.answers.proofs.Spacing.{parts-length}
 
-pub tells : {text before after : List ℕ} {given s : State} {at next : ℕ} {reply : Reply} →
-    (reply .state ≡ given) × (reply .at ≡ next) → given ≡ s → Put text at before after next → Replies text s at before after reply
-tells r e p = record { state = r .0 ∙ e; told = rw (r .1) p }
+pub tells : {text before after : List ℕ} {given next : Hand} {most at end : ℕ} {reply : Reply} →
+    (reply .hand ≡ given) × (reply .at ≡ end) → given ≡ next → length text ≤ most → Put text at before after end →
+    Replies most text next at before after reply
+tells r e l p =
+    record { hand = r .0 ∙ e; told = rw (r .1) p; within = omega (arith, r .1, put-frame p .within) }
+
+-- a state's numbers, told as the first and those after it
+pub dumps : {hand : Hand} {at : ℕ} {before after numbers : List ℕ} {reply : Reply} →
+    numbers ≡ stateNumbers (hand .state) → length numbers ≡ numberCount →
+    RepliesNumbers hand at before after reply (getD numbers 0 0 ∷ take (numberCount - 1) (drop 1 numbers)) (hand .state) →
+    Dumps hand at before after reply
+dumps {hand} {at} {before} {after} {numbers} {reply} e l r =
+    let rest : take (numberCount - 1) (drop 1 numbers) ≡ drop 1 numbers = take-all (numberCount - 1) (drop 1 numbers) (rw length-drop (omega arith)) in
+    let all : getD numbers 0 0 ∷ take (numberCount - 1) (drop 1 numbers) ≡ numbers = rw rest (sym (drop-cons numbers 0 0 (omega arith))) in
+    let long : length (take (numberCount - 1) (drop 1 numbers)) ≡ numberCount - 1 = rw (rest, length-drop) (omega arith) in
+    rw (sym e) (record { hand = r .hand; told = rw all at (r .told); within = rw long at (r .within) })
+
+-- a reading is seven parts
+pub reading-length : (r : Reading) → length (r .shares) ≡ 6 → length (readingText r) ≤ readingMost
+reading-length r six = omega (arith, parts-length (r .seconds ∷ r .shares))
+
+pub cabin-length : (refusal : ℕ) (r : Reading) → length (readingText r) ≤ readingMost → length (cabinText refusal r) ≤ cabinMost
+unfolding cabinText
+cabin-length refusal r h = rw (length-append, length-append) (omega (arith, digits-length 1 refusal))

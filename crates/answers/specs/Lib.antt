@@ -1,4 +1,2 @@
 pub mod Numbers
-pub mod Told
-pub mod Image
 pub mod Replies

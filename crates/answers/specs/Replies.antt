@@ -1,85 +1,110 @@
--- What each call answers: the lines of the table.
-use Prim.Native.Nat.{ℕ}
+-- What each call answers: the lines of the table, and how long they are at most.
+use Prim.Native.Nat.{ℕ, _+_, _*_, _≤_}
 use mathlib.Core.Path.{_≡_}
 use mathlib.Core.List.{List, [], _∷_, _++_}
 use lib.Dec.{eqb}
-use lib.Ieee.{Float}
+use lib.ListN.{length}
 use Rattle.rules.specs.declared.State.{State}
 use Rattle.rules.specs.declared.Answer.{Answer}
-use Rattle.rules.specs.declared.ReadAnswer.{ReadAnswer}
-use Rattle.rules.specs.declared.FanFailAnswer.{FanFailAnswer}
 use Rattle.rules.specs.declared.Speed.{Speed}
-use Rattle.rules.specs.declared.ReadingAnswer.{ReadingAnswer}
+use Rattle.rules.specs.declared.Reading.{Reading}
+use Rattle.rules.specs.declared.Call.{Call}
+use Rattle.rules.specs.declared.Call.the-variants.{Write, Read, Ticks, Tachometer, Pin}
 use Rattle.rules.specs.Basics.{flag}
 use Rattle.rules.specs.Start.{startOf}
-use Rattle.rules.specs.Write.{writeOf}
-use Rattle.rules.specs.Read.{readOf}
-use Rattle.rules.specs.Tick.{ticksPassed}
-use Rattle.rules.specs.Tachometer.{resultOf}
-use Rattle.rules.specs.Pin.{pinOf}
+use Rattle.rules.specs.Make.{made}
+use Rattle.rules.specs.FanFail.{fanFailOf}
+use Rattle.rules.specs.Reading.{readingOf}
 use Rattle.rules.specs.Speed.{speedOf, speedRefusal, speedValue}
 use Rattle.text.specs.Put.{Put}
 use Rattle.text.specs.Decimal.{decimalOf}
-use Rattle.text.specs.Fraction.{partsOf, nineDecimals}
-use Rattle.answers.specs.declared.old_calls.Reply.{Reply}
-use Rattle.answers.specs.Numbers.{answerLine}
-use Rattle.answers.specs.Image.{byteOf, number}
+use Rattle.image.specs.Image.{numberCount, stateNumbers, number, byteOf, stateFrom}
+use Rattle.answers.specs.declared.replies.Hand.{Hand}
+use Rattle.answers.specs.declared.replies.Reply.{Reply}
+use Rattle.answers.specs.Numbers.{answerLine, lineMost, spacedParts}
 
--- a text is put as the answer, and a state is the one in hand
-pub record Replies (text : List ℕ) (s : State) (at : ℕ) (before after : List ℕ) (reply : Reply) : Type 0 where
-  pub state : reply .state ≡ s
+-- what the console has in hand, with another state
+abbrev pub withState : Hand → State → Hand
+withState hand s = record { state = s }
+
+-- a text of at most so many bytes is put as the answer, and something is in hand after it
+pub record Replies (most : ℕ) (text : List ℕ) (next : Hand) (at : ℕ) (before after : List ℕ) (reply : Reply) : Type 0 where
+  pub hand : reply .hand ≡ next
   pub told : Put text at before after (reply .at)
+  pub within : reply .at ≤ at + most
 
--- ---- the calls, made with the numbers of a line: "`start WATCHDOG SPINUP TARGET FREQUENCY`" and so on
+-- ---- the calls, made with the numbers of a line: "`write ADDRESS BYTE`" and so on. "`pin LEVEL` (0 low, 1 high)"
+abbrev pub writeCall : List ℕ → Call
+writeCall v = Write (number v 0) (byteOf (number v 1))
+
+abbrev pub readCall : List ℕ → Call
+readCall v = Read (number v 0)
+
+abbrev pub ticksCall : List ℕ → Call
+ticksCall v = Ticks (number v 0)
+
+abbrev pub tachCall : List ℕ → Call
+tachCall v = Tachometer (number v 0) (number v 1)
+
+abbrev pub pinCall : List ℕ → Call
+pinCall v = Pin (eqb (number v 0) 1)
+
 abbrev pub startBy : List ℕ → Answer
 startBy v = startOf (number v 0) (number v 1) (number v 2) (byteOf (number v 3))
-
-abbrev pub writeBy : State → List ℕ → Answer
-writeBy s v = writeOf s (number v 0) (byteOf (number v 1))
-
-abbrev pub readBy : State → List ℕ → ReadAnswer
-readBy s v = readOf s (number v 0)
-
-abbrev pub ticksBy : State → List ℕ → Answer
-ticksBy s v = ticksPassed s (number v 0)
-
-abbrev pub tachBy : State → List ℕ → Answer
-tachBy s v = resultOf s (number v 0) (number v 1)
-
--- "`pin LEVEL` (0 low, 1 high)"
-abbrev pub pinBy : State → List ℕ → Answer
-pinBy s v = pinOf s (eqb (number v 0) 1)
 
 abbrev pub speedBy : List ℕ → Speed
 speedBy v = speedOf (number v 0) (number v 1) (number v 2)
 
--- ---- what they answer
+-- ---- what each answers, and what is in hand then
 
--- "refusal"; "refusal, byte"; "refusal, asserted (0 or 1), how many, lowest channel"; "refusal, speed"
-abbrev pub refusalLine : Answer → List ℕ
-refusalLine a = answerLine (a .refusal ∷ [])
+-- "refusal, seconds, six shares, printed from the f64s that the call gave": seven times a space, ten digits, a point and nine
+-- decimals; before them ten digits, and after them a line feed
+abbrev pub readingText : Reading → List ℕ
+readingText r = spacedParts (r .seconds ∷ r .shares)
 
--- a call that gives a refusal and a state is answered so
-abbrev pub Refuses : Answer → ℕ → List ℕ → List ℕ → Reply → Type 0
-Refuses a at before after reply = Replies (refusalLine a) (a .state) at before after reply
+abbrev pub readingMost : ℕ
+readingMost = 7 * 21
 
-abbrev pub readLine : ReadAnswer → List ℕ
-readLine a = answerLine (a .refusal ∷ a .byte ∷ [])
+unfoldable pub cabinText : ℕ → Reading → List ℕ
+cabinText refusal r = decimalOf refusal ++ (readingText r ++ (10 ∷ []))
 
-abbrev pub fanFailLine : FanFailAnswer → List ℕ
-fanFailLine a = answerLine (a .refusal ∷ flag (a .asserted) ∷ a .failed ∷ a .lowest ∷ [])
-
-abbrev pub speedLine : Speed → List ℕ
-speedLine speed = answerLine (speedRefusal speed ∷ speedValue speed ∷ [])
-
--- "refusal, seconds, six shares, printed from the f64s that the call gave; each with exactly nine decimals"
-unfoldable pub spacedParts : List Float → List ℕ
-spacedParts [] = []
-spacedParts (x ∷ parts) = 32 ∷ (nineDecimals (partsOf x) ++ spacedParts parts)
-
-unfoldable pub cabinLine : ReadingAnswer → List ℕ
-cabinLine a = decimalOf (a .refusal) ++ (spacedParts (a .reading .seconds ∷ a .reading .shares) ++ (10 ∷ []))
+abbrev pub cabinMost : ℕ
+cabinMost = 10 + readingMost + 1
 
 -- "`ok`"
 abbrev pub okLine : List ℕ
 okLine = 111 ∷ 107 ∷ 10 ∷ []
+
+module _ (hand : Hand) (at : ℕ) (before after : List ℕ) (reply : Reply) where
+  abbrev pub RepliesNumbers : List ℕ → State → Type 0
+  RepliesNumbers numbers s = Replies (lineMost (length numbers)) (answerLine numbers) (withState hand s) at before after reply
+
+  -- "refusal"; of a read "refusal, byte"; of `start` "refusal; the state in hand is the one given back"
+  abbrev pub Makes : Call → Type 0
+  Makes call = let a = made (hand .state) call in RepliesNumbers (a .refusal ∷ []) (a .state)
+
+  abbrev pub MakesRead : Call → Type 0
+  MakesRead call = let a = made (hand .state) call in RepliesNumbers (a .refusal ∷ a .byte ∷ []) (a .state)
+
+  abbrev pub Starts : List ℕ → Type 0
+  Starts v = let a = startBy v in RepliesNumbers (a .refusal ∷ []) (a .state)
+
+  -- "refusal, asserted (0 or 1), how many, lowest channel"
+  abbrev pub TellsFanFail : Type 0
+  TellsFanFail =
+      let a = fanFailOf (hand .state) in
+      RepliesNumbers (a .refusal ∷ flag (a .asserted) ∷ a .failed ∷ a .lowest ∷ []) (a .state)
+
+  abbrev pub TellsCabin : Type 0
+  TellsCabin = let a = readingOf (hand .state) in Replies cabinMost (cabinText (a .refusal) (a .reading)) (withState hand (a .state)) at before after reply
+
+  -- "refusal, speed"
+  abbrev pub TellsSpeed : List ℕ → Type 0
+  TellsSpeed v = RepliesNumbers (speedRefusal (speedBy v) ∷ speedValue (speedBy v) ∷ []) (hand .state)
+
+  -- "the state's numbers"; "`ok`; the state in hand is made of these numbers"
+  abbrev pub Dumps : Type 0
+  Dumps = Replies (lineMost numberCount) (answerLine (stateNumbers (hand .state))) hand at before after reply
+
+  abbrev pub Loads : List ℕ → Type 0
+  Loads v = Replies (length okLine) okLine (withState hand (stateFrom v)) at before after reply

@@ -1,6 +1,3 @@
 // The calls as a line asks for them, and their answers as text. specs/ says what they are.
 pub mod line;
-pub mod numbers;
-pub mod old_calls;
-pub mod old_image;
 pub mod replies;

@@ -1,11 +1,11 @@
 // The calls, made with the numbers of a line on the state in hand, and their answers.
 ghost use mathlib.Core.Path.{_≡_};
 ghost use Prim.Native.Nat.{_≤_};
-ghost use mathlib.Core.List.{[], _∷_};
+ghost use mathlib.Core.List.{_∷_};
 ghost use lib.ListN.{length};
 ghost use Rattle.text.specs.Put.{Put};
 ghost use Rattle.rules.specs.Speed.{speedRefusal, speedValue};
-ghost use Rattle.answers.specs.Told.{withState, RepliesNumbers, Makes, MakesRead, Starts, TellsFanFail, TellsCabin, TellsSpeed, Dumps, Loads, writeCall, readCall, ticksCall, tachCall, pinCall, startBy, speedBy, readingText, readingMost, cabinText, cabinMost};
+ghost use Rattle.answers.specs.Replies.{withState, RepliesNumbers, Makes, MakesRead, Starts, TellsFanFail, TellsCabin, TellsSpeed, Dumps, Loads, writeCall, readCall, ticksCall, tachCall, pinCall, startBy, speedBy, readingText, readingMost, cabinText, cabinMost};
 use crate::line::put_line;
 use crate::line::put_part;
 use crate::line::put_parts;

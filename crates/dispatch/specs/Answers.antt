@@ -15,7 +15,7 @@ use Rattle.commands.specs.Table.{longestOf}
 use Rattle.commands.specs.Commands.{parsedOf, valuesOf}
 use Rattle.answers.specs.declared.replies.Hand.{Hand}
 use Rattle.answers.specs.declared.replies.Reply.{Reply}
-use Rattle.answers.specs.Told.{Makes, MakesRead, Starts, TellsFanFail, TellsCabin, TellsSpeed, Dumps, Loads, writeCall, readCall, ticksCall, tachCall, pinCall}
+use Rattle.answers.specs.Replies.{Makes, MakesRead, Starts, TellsFanFail, TellsCabin, TellsSpeed, Dumps, Loads, writeCall, readCall, ticksCall, tachCall, pinCall}
 
 -- the longest error; the longest answer, for which room is made before each line
 abbrev pub longestError : ℕ

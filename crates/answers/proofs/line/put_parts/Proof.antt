@@ -5,7 +5,7 @@ use lib.Ieee.{nan}
 use borrow.Author.Needs.{needs}
 use Rattle.text.proofs.Stores.{Remains, all-remains, part-put, none-remains}
 use Rattle.answers.specs.Numbers.{spacedParts}
-use Rattle.answers.proofs.Spaced.{parts-next, parts-end}
+use Rattle.answers.proofs.Spacing.{parts-next, parts-end}
 use Rattle.answers.proofs.line.put_parts.Statement.{statement}
 use Rattle.answers.proofs.line.put_parts.Tie as tie
 

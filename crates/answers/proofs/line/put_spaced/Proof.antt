@@ -4,7 +4,7 @@ use lib.ListN.{length, drop}
 use borrow.Author.Needs.{needs}
 use Rattle.text.proofs.Stores.{Remains, all-remains, part-put, none-remains}
 use Rattle.answers.specs.Numbers.{spaced}
-use Rattle.answers.proofs.Spaced.{spaced-next, spaced-end}
+use Rattle.answers.proofs.Spacing.{spaced-next, spaced-end}
 use Rattle.answers.proofs.line.put_spaced.Statement.{statement}
 use Rattle.answers.proofs.line.put_spaced.Tie as tie
 

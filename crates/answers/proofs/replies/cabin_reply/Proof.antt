@@ -1,5 +1,5 @@
 -- `replies::cabin_reply` meets its contract. Assumes nothing.
-use Rattle.answers.proofs.Replying.{tells}
+use Rattle.answers.proofs.Telling.{tells}
 use borrow.Author.Needs.{needs}
 use Rattle.answers.proofs.replies.cabin_reply.Statement.{statement}
 use Rattle.answers.proofs.replies.cabin_reply.Tie as tie

@@ -1,5 +1,5 @@
 -- `replies::dump_reply` meets its contract. Assumes nothing.
-use Rattle.answers.proofs.Replying.{dumps}
+use Rattle.answers.proofs.Telling.{dumps}
 use borrow.Author.Needs.{needs}
 use Rattle.answers.proofs.replies.dump_reply.Statement.{statement}
 use Rattle.answers.proofs.replies.dump_reply.Tie as tie

@@ -1,6 +1,6 @@
 -- `replies::numbers_reply` meets its contract. Assumes nothing.
-use Rattle.answers.proofs.Spaced.{line-length}
-use Rattle.answers.proofs.Replying.{tells}
+use Rattle.answers.proofs.Spacing.{line-length}
+use Rattle.answers.proofs.Telling.{tells}
 use borrow.Author.Needs.{needs}
 use Rattle.answers.proofs.replies.numbers_reply.Statement.{statement}
 use Rattle.answers.proofs.replies.numbers_reply.Tie as tie

@@ -1,7 +1,7 @@
 -- `replies::put_cabin` meets its contract. Assumes nothing.
 use Rattle.text.proofs.Stores.{put-append}
-use Rattle.answers.specs.Told.{cabinText}
-use Rattle.answers.proofs.Replying.{cabin-length}
+use Rattle.answers.specs.Replies.{cabinText}
+use Rattle.answers.proofs.Telling.{cabin-length}
 use borrow.Author.Needs.{needs}
 use Rattle.answers.proofs.replies.put_cabin.Statement.{statement}
 use Rattle.answers.proofs.replies.put_cabin.Tie as tie

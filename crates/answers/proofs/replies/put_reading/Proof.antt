@@ -1,7 +1,7 @@
 -- `replies::put_reading` meets its contract. Assumes nothing.
 use Rattle.text.proofs.Stores.{put-append}
 use Rattle.answers.specs.Numbers.{spacedParts}
-use Rattle.answers.proofs.Replying.{reading-length}
+use Rattle.answers.proofs.Telling.{reading-length}
 use borrow.Author.Needs.{needs}
 use Rattle.answers.proofs.replies.put_reading.Statement.{statement}
 use Rattle.answers.proofs.replies.put_reading.Tie as tie
