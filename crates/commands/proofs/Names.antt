@@ -1,24 +1,17 @@
--- Words compared, and a row found among rows.
-use Prim.Native.Nat.{ℕ, _+_, suc, _<_}
+-- Words compared.
+use Prim.Native.Nat.{ℕ}
 use mathlib.Core.Path.{_≡_, refl, sym, _∙_}
-use mathlib.Core.Bool.{Bool, true, false, _&&_}
+use mathlib.Core.Bool.{Bool, true, false}
 use mathlib.Core.List.{List, [], _∷_}
 use lib.Dec.{eqb}
 use borrow.Author.Tests.{eq-eqb, eqb-true}
-use Rattle.commands.specs.Table.{Row, nameOf, sameBytes, Named, known, unknown, namedAmong}
+use Rattle.rules.proofs.Tests.{and-left, and-right, by-test}
+use Rattle.commands.specs.Table.{sameBytes}
 
 pub same-self : (word : List ℕ) → sameBytes word word ≡ true
 unfolding sameBytes
 same-self [] = refl
 same-self (byte ∷ word) = rw (eq-eqb byte byte refl) (same-self word)
-
-pub and-left : (a b : Bool) → (a && b) ≡ true → a ≡ true
-and-left true b e = refl
-and-left false b e = e
-
-pub and-right : (a b : Bool) → (a && b) ≡ true → b ≡ true
-and-right true b e = e
-and-right false b e = cc
 
 pub same-equal : (a b : List ℕ) → sameBytes a b ≡ true → a ≡ b
 unfolding sameBytes
@@ -33,8 +26,4 @@ same-equal (x ∷ a) (y ∷ b) e =
 -- a test that is true exactly where two words are equal is that test
 pub decides : (r : Bool) (a b : List ℕ) → (r ≡ true → a ≡ b) × (a ≡ b → r ≡ true) → r ≡ sameBytes a b
 decides true a b d = sym (rw (d .0 refl) (same-self b))
-decides false a b d = go (sameBytes a b) refl
-  where
-    go : (t : Bool) → sameBytes a b ≡ t → false ≡ t
-    go false e = refl
-    go true e = d .1 (same-equal a b e)
+decides false a b d = by-test (sameBytes a b) (λ t. d .1 (same-equal a b t) ∙ sym t) (λ f. sym f)

@@ -8,6 +8,7 @@ use native.Mathlib.Omega.{arith}
 use lib.ListN.{length}
 use lib.Dec.{eqb}
 use Rattle.rules.specs.Basics.{every}
+use Rattle.rules.proofs.Tests.{and-left, and-right, by-test}
 use Rattle.text.specs.Words.{runOf}
 use Rattle.commands.specs.declared.table.Verb.{Verb}
 use Rattle.commands.specs.declared.Numbers.{Numbers}
@@ -15,11 +16,11 @@ use Rattle.commands.specs.declared.Numbers.the-variants as numbers
 use Rattle.commands.specs.declared.Parsed.the-variants.{Call}
 use Rattle.commands.specs.Table.{Row, commands, nameOf, sameBytes, Named, known, unknown, namedAmong, namedBy}
 use Rattle.commands.specs.Commands.{takenOf, parsedBy, parsedIn, parsedAs, parsedOf}
-use Rattle.commands.proofs.Names.{and-left, and-right, same-self, same-equal}
+use Rattle.commands.proofs.Names.{same-self, same-equal}
 
-every-at : {A : Type 0} (test : A → Bool) {x : A} (xs : List A) → every test xs ≡ true → List·Memᴰ x xs → test x ≡ true
-every-at test (y ∷ xs) e (List·Memᴰ·head p) = ap test p ∙ and-left (test y) (every test xs) e
-every-at test (y ∷ xs) e (List·Memᴰ·tail m) = every-at test xs (and-right (test y) (every test xs) e) m
+every-member : {A : Type 0} (test : A → Bool) {x : A} (xs : List A) → every test xs ≡ true → List·Memᴰ x xs → test x ≡ true
+every-member test (y ∷ xs) e (List·Memᴰ·head p) = ap test p ∙ and-left (test y) (every test xs) e
+every-member test (y ∷ xs) e (List·Memᴰ·tail m) = every-member test xs (and-right (test y) (every test xs) e) m
 
 -- ---- no name stands twice
 abbrev differ : List Row → Bool
@@ -49,18 +50,15 @@ has-here i {r} word {j} {row} t e =
 pub row-of-named : (rows : List Row) (i : ℕ) (word : List ℕ) {j : ℕ} {row : Row} → namedAmong rows i word ≡ known j row → Has rows word row
 unfolding namedAmong
 row-of-named [] i word e = let z : _≡_ {A = ℕ} 0 1 = cc in absurd (omega arith)
-row-of-named (r ∷ rows) i word {j} {row} e = go (row-of-named rows (i + 1) word) (sameBytes word (nameOf r)) refl
-  where
-    go : (namedAmong rows (i + 1) word ≡ known j row → Has rows word row) → (t : Bool) → sameBytes word (nameOf r) ≡ t → Has (r ∷ rows) word row
-    go later true t = has-here i word t (rw t at e)
-    go later false t = has-later (later (rw t at e))
+row-of-named (r ∷ rows) i word e =
+    by-test (sameBytes word (nameOf r)) (λ t. has-here i word t (rw t at e)) (λ f. has-later (row-of-named rows (i + 1) word (rw f at e)))
 
 -- ---- a row of the table is named by its name, wherever it stands
 pub named-by-name : (rows : List Row) (i : ℕ) {row : Row} → differ rows ≡ true → List·Memᴰ row rows → (j : ℕ) × (namedAmong rows i (nameOf row) ≡ known j row)
 unfolding namedAmong
 named-by-name (r ∷ rows) i d (List·Memᴰ·head e) = (i, rw (e, same-self (nameOf r)))
 named-by-name (r ∷ rows) i {row} d (List·Memᴰ·tail m) =
-    let apart = every-at (λ other. not (sameBytes (nameOf other) (nameOf r))) rows (and-left _ (differ rows) d) m in
+    let apart = every-member (λ other. not (sameBytes (nameOf other) (nameOf r))) rows (and-left _ (differ rows) d) m in
     let later = named-by-name rows (i + 1) (and-right (every (λ other. not (sameBytes (nameOf other) (nameOf r))) rows) (differ rows) d) m in
     (later .0, rw (not-true (sameBytes (nameOf row) (nameOf r)) apart) (later .1))
 
@@ -71,11 +69,8 @@ called-by verb called (numbers.Wrong reason) e = cc
 
 called-in : (place : ℕ) (verb called : Verb) (limits : List ℕ) (words : List (List ℕ)) → parsedIn place verb limits words ≡ Call called → verb ≡ called
 unfolding parsedIn
-called-in place verb called limits words e = go (eqb (length words) (length limits)) refl
-  where
-    go : (t : Bool) → eqb (length words) (length limits) ≡ t → verb ≡ called
-    go true t = called-by verb called (takenOf limits 0 words) (rw t at e)
-    go false t = cc (rw t at e)
+called-in place verb called limits words e =
+    by-test (eqb (length words) (length limits)) (λ t. called-by verb called (takenOf limits 0 words) (rw t at e)) (λ f. cc (rw f at e))
 
 called-as : (named : Named) (words : List (List ℕ)) {called : Verb} → parsedAs named words ≡ Call called →
     (place : ℕ) × (row : Row) × (named ≡ known place row) × (row .verb ≡ called)
@@ -89,4 +84,4 @@ called-tested test all [] e = let z : _≡_ {A = ℕ} 0 1 = cc in absurd (omega 
 called-tested test all (word ∷ words) e =
     let named = called-as (namedBy word) words e in
     let has = row-of-named commands 0 word (named .2) in
-    sym (ap test (named .3)) ∙ every-at (λ row. test (row .verb)) commands all (has .0)
+    sym (ap test (named .3)) ∙ every-member (λ row. test (row .verb)) commands all (has .0)

@@ -8,14 +8,13 @@ use native.Mathlib.Numerals.{add-one}
 use lib.ListN.{length, getD, take, drop, drop-of-length-le, List·getD-eq-default, length-map}
 use lib.Dec.{leb}
 use borrow.Author.Tests.{leb-true}
-use Rattle.rules.specs.Basics.{every}
+use Rattle.rules.proofs.Tests.{and-left, and-right, every-at}
 use Rattle.text.specs.Put.{Put}
 use Rattle.commands.specs.declared.table.Command.{Command}
 use Rattle.commands.specs.declared.table.Found.{Found}
 use Rattle.image.specs.Image.{channelsLimits, limits as stateLimits, numberCount}
 use Rattle.commands.specs.Table.{Row, commands, nameOf, sameBytes, Named, known, unknown, namedAmong, usageAt}
 use Rattle.commands.specs.Steps.{Is, described, asked, Describe, FoundAs}
-use Rattle.commands.proofs.Names.{and-left, and-right}
 
 -- the row at an index, in both
 pub record RowAt (command : Command) (rows : List Row) (i : ℕ) : Type 0 where
@@ -89,14 +88,10 @@ pub usage-past : (place : ℕ) → length commands ≤ place → usageAt place �
 unfolding usageAt
 usage-past place h = List·getD-eq-default (map (λ row. row .usage) commands) [] {n = place} (rw length-map h)
 
-short-at : (rows : List Row) (place : ℕ) → every (λ row. leb (length (row .usage)) 38) rows ≡ true → length (getD (map (λ row. row .usage) rows) place []) ≤ 38
-short-at [] place e = omega arith
-short-at (row ∷ rows) zero e = leb-true _ _ (and-left _ _ e)
-short-at (row ∷ rows) (suc place) e = short-at rows place (and-right (leb (length (row .usage)) 38) _ e)
-
 pub usage-short : (place : ℕ) → length (usageAt place) ≤ 38
 unfolding usageAt commands
-usage-short place = short-at commands place refl
+usage-short place =
+    leb-true _ _ (every-at (λ usage. leb (length usage) 38) (map (λ row. row .usage) commands) place [] refl refl)
 
 -- as many rows, and numbers of a state, as the source has
 pub many : length commands ≡ 14

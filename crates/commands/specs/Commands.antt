@@ -16,7 +16,7 @@ use Rattle.commands.specs.declared.Numbers.{Numbers}
 use Rattle.commands.specs.declared.Numbers.the-variants as numbers
 use Rattle.commands.specs.declared.Parsed.{Parsed}
 use Rattle.commands.specs.declared.Parsed.the-variants.{Call, Wrong}
-use Rattle.commands.specs.Table.{Row, Named, known, unknown, namedBy}
+use Rattle.commands.specs.Table.{Named, known, unknown, namedBy}
 
 -- ---- its numbers, each with a limit
 

@@ -65,9 +65,10 @@ returns-2 c =
 parse-row-requires : tie.Need-parse-row-requires
 parse-row-requires c κs =
     let after = c .before .before .before in
+    let known = after .before .before in
     let f = row after (omega (arith, many)) in (
-      (c .before .before .before .before .before .before .before .before .before .before .before .pre, omega (arith, f .is .few, state-numbers), ap length (f .is .limits) ∙ sym (f .is .count)),
-      omega (arith, ap length (first (after .before .before))),
+      (known .before .before .before .before .before .before .pre, omega (arith, f .is .few, state-numbers), ap length (f .is .limits) ∙ sym (f .is .count)),
+      omega (arith, ap length (first known)),
     )
 
 same-length : tie.Need-same-length

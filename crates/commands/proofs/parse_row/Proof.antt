@@ -2,8 +2,6 @@
 use mathlib.Core.Path.{sym, _∙_}
 use native.Mathlib.Omega.{arith}
 use borrow.Author.Needs.{needs}
-use Rattle.text.specs.Words.{wordsOf}
-use Rattle.commands.specs.Steps.{limitsOf}
 use Rattle.commands.proofs.Parsing.{miscounted, counted}
 use Rattle.commands.proofs.parse_row.Statement.{statement}
 use Rattle.commands.proofs.parse_row.Tie as tie

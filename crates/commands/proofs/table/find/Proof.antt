@@ -2,19 +2,18 @@
 use Prim.Native.Nat.{_+_, _-_, _≤_}
 use mathlib.Core.Path.{_≡_, refl}
 use native.Mathlib.Omega.{arith}
-use lib.ListN.{drop}
+use lib.ListN.{length, drop}
 use borrow.Author.Needs.{needs}
 use Rattle.commands.specs.Table.{commands as rows, namedAmong, namedBy}
-use Rattle.commands.specs.Steps.{Describe}
 use Rattle.commands.proofs.Rows.{many, row-at, name-within, named-here, named-later, named-nowhere, found-here, found-none}
 use Rattle.commands.proofs.table.find.Statement.{statement}
 use Rattle.commands.proofs.table.find.Tie as tie
 
 abbrev Inv-loop : tie.InvT-loop
-Inv-loop word commands i₀ i = (i ≤ 14) × (namedAmong (drop i rows) i word ≡ namedBy word)
+Inv-loop word commands i₀ i = (i ≤ length rows) × (namedAmong (drop i rows) i word ≡ namedBy word)
 
 abbrev μ-loop : tie.MeasureT-loop
-μ-loop word commands i₀ i = 14 - i
+μ-loop word commands i₀ i = length rows - i
 
 table-requires : tie.Need-table-requires Inv-loop μ-loop
 table-requires c κs = search needs
@@ -46,13 +45,13 @@ add-i : tie.Need-add-i Inv-loop μ-loop
 add-i c = search needs
 
 loop-less : tie.Need-loop-less Inv-loop μ-loop
-loop-less c = search needs
+loop-less c = omega (arith, many)
 
 loop-again : tie.Need-loop-again Inv-loop μ-loop
 loop-again c =
     let loop = c .before .before .before .before .before .before .before .loop in
     let table = c .before .before .before .before .before .before .before .before .table in
-    let more : loop .i + 1 ≤ 14 = omega arith in
+    let more : loop .i + 1 ≤ length rows = omega (arith, many) in
     let at = row-at (table .result) rows (table .ensures) (loop .i) (omega (arith, many)) _ in
     (more, named-later at _ (loop .inv .1) (c .before .is-name .ensures) (c .if1 .left))
 

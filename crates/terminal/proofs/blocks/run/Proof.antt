@@ -50,7 +50,9 @@ slice-aggregate-take-block : tie.Need-slice-aggregate-take-block Inv-loop μ-loo
 slice-aggregate-take-block c = search needs
 
 take-block-requires : tie.Need-take-block-requires Inv-loop μ-loop
-take-block-requires c κs = c .before .before .before .before .before .before .before .before .before .loop .inv
+take-block-requires c κs =
+    let read = c .before .before .before .before in
+    read .before .before .before .before .before .loop .inv
 
 flush-requires : tie.Need-flush-requires Inv-loop μ-loop
 flush-requires c κs = c .before .before .before .before .before .take-block .ensures .answers-within
