@@ -2,7 +2,7 @@
 use mathlib.Core.Path.{refl}
 use native.Mathlib.Omega.{arith}
 use Rattle.text.proofs.Frames.{put-frame, frame-looser, frames-3}
-use Rattle.display.proofs.Usages.{usage-length}
+use Rattle.commands.proofs.Rows.{usage-short}
 use Rattle.display.proofs.errors.put_word_count.Statement.{statement}
 use Rattle.display.proofs.errors.put_word_count.Tie as tie
 
@@ -27,7 +27,7 @@ put-text-requires c κs = tt
 returns : tie.Need-returns
 returns c =
     let usage = c .before .before .before .before .before .before .before in
-    frames-3 (usage .before .before .before .before .put-form .ensures) (frame-looser (usage-length _) (put-frame (usage .put-usage .ensures))) (c .before .before .put-text .ensures) (omega arith)
+    frames-3 (usage .before .before .before .before .put-form .ensures) (frame-looser (usage-short _) (put-frame (usage .put-usage .ensures))) (c .before .before .put-text .ensures) (omega arith)
 
 same-length : tie.Need-same-length
 same-length c = returns c .long
