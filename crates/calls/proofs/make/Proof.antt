@@ -9,43 +9,43 @@ enum-known-call : tie.Need-enum-known-call
 enum-known-call c = search needs
 
 write-requires : tie.Need-write-requires
-write-requires c κs = search needs
+write-requires c κs = tt
 
 without-byte-requires : tie.Need-without-byte-requires
-without-byte-requires c κs = search needs
+without-byte-requires c κs = tt
 
 enum-known-call-2 : tie.Need-enum-known-call-2
 enum-known-call-2 c = search needs
 
 read-requires : tie.Need-read-requires
-read-requires c κs = search needs
+read-requires c κs = tt
 
 enum-known-call-3 : tie.Need-enum-known-call-3
 enum-known-call-3 c = search needs
 
 pass-ticks-requires : tie.Need-pass-ticks-requires
-pass-ticks-requires c κs = search needs
+pass-ticks-requires c κs = tt
 
 without-byte-requires-2 : tie.Need-without-byte-requires-2
-without-byte-requires-2 c κs = search needs
+without-byte-requires-2 c κs = tt
 
 enum-known-call-4 : tie.Need-enum-known-call-4
 enum-known-call-4 c = search needs
 
 take-result-requires : tie.Need-take-result-requires
-take-result-requires c κs = search needs
+take-result-requires c κs = tt
 
 without-byte-requires-3 : tie.Need-without-byte-requires-3
-without-byte-requires-3 c κs = search needs
+without-byte-requires-3 c κs = tt
 
 enum-known-call-5 : tie.Need-enum-known-call-5
 enum-known-call-5 c = search needs
 
 set-pin-requires : tie.Need-set-pin-requires
-set-pin-requires c κs = search needs
+set-pin-requires c κs = tt
 
 without-byte-requires-4 : tie.Need-without-byte-requires-4
-without-byte-requires-4 c κs = search needs
+without-byte-requires-4 c κs = tt
 
 returns : tie.Need-returns
 unfolding made

@@ -14,7 +14,7 @@ use Rattle.commands.proofs.parse_into.Statement.{statement}
 use Rattle.commands.proofs.parse_into.Tie as tie
 
 next-word-requires : tie.Need-next-word-requires
-next-word-requires c κs = search needs
+next-word-requires c κs = tt
 
 enum-known-first : tie.Need-enum-known-first
 enum-known-first c = search needs

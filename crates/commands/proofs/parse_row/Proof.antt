@@ -7,7 +7,7 @@ use Rattle.commands.proofs.parse_row.Statement.{statement}
 use Rattle.commands.proofs.parse_row.Tie as tie
 
 count-words-requires : tie.Need-count-words-requires
-count-words-requires c κs = search needs
+count-words-requires c κs = tt
 
 add-if1 : tie.Need-add-if1
 add-if1 c = search needs

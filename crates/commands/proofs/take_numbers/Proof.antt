@@ -26,7 +26,7 @@ loop-holds : tie.Need-loop-holds Inv-loop μ-loop
 loop-holds c = (c .before .before .pre .0 .0, omega arith, refl, refl)
 
 next-word-requires : tie.Need-next-word-requires Inv-loop μ-loop
-next-word-requires c κs = search needs
+next-word-requires c κs = tt
 
 enum-known-next : tie.Need-enum-known-next Inv-loop μ-loop
 enum-known-next c = search needs
@@ -78,7 +78,7 @@ unfolding valueOf
 heard c = rw (← c .before .limit .ensures) (sym (c .limited .ensures))
 
 limited-requires : tie.Need-limited-requires Inv-loop μ-loop
-limited-requires c κs = search needs
+limited-requires c κs = tt
 
 enum-known-value : tie.Need-enum-known-value Inv-loop μ-loop
 enum-known-value c = search needs

@@ -14,13 +14,13 @@ use Rattle.dispatch.proofs.answer.Statement.{statement}
 use Rattle.dispatch.proofs.answer.Tie as tie
 
 parse-line-requires : tie.Need-parse-line-requires
-parse-line-requires c κs = search needs
+parse-line-requires c κs = tt
 
 enum-known-parsed : tie.Need-enum-known-parsed
 enum-known-parsed c = search needs
 
 refuse-requires : tie.Need-refuse-requires
-refuse-requires c κs = search needs
+refuse-requires c κs = tt
 
 enum-known-parsed-2 : tie.Need-enum-known-parsed-2
 enum-known-parsed-2 c = search needs
@@ -35,7 +35,7 @@ slice-aggregate-reply-to c =
     as-many (replicate numberCount 0) _ (valuesOf (wordsOf line)) refl (c .before .before .before .before .parse-line .ensures .1)
 
 reply-to-requires : tie.Need-reply-to-requires
-reply-to-requires c κs = search needs
+reply-to-requires c κs = tt
 
 same-length : tie.Need-same-length
 same-length c = search needs

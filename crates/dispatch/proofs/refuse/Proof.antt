@@ -5,10 +5,10 @@ use Rattle.dispatch.proofs.refuse.Statement.{statement}
 use Rattle.dispatch.proofs.refuse.Tie as tie
 
 put-error-requires : tie.Need-put-error-requires
-put-error-requires c κs = search needs
+put-error-requires c κs = tt
 
 replied-requires : tie.Need-replied-requires
-replied-requires c κs = search needs
+replied-requires c κs = tt
 
 same-length : tie.Need-same-length
 same-length c = search needs

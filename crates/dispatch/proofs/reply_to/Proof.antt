@@ -8,97 +8,97 @@ enum-told : tie.Need-enum-told
 enum-told c = search needs
 
 start-reply-requires : tie.Need-start-reply-requires
-start-reply-requires c κs = search needs
+start-reply-requires c κs = tt
 
 enum-told-2 : tie.Need-enum-told-2
 enum-told-2 c = search needs
 
 write-reply-requires : tie.Need-write-reply-requires
-write-reply-requires c κs = search needs
+write-reply-requires c κs = tt
 
 enum-told-3 : tie.Need-enum-told-3
 enum-told-3 c = search needs
 
 read-reply-requires : tie.Need-read-reply-requires
-read-reply-requires c κs = search needs
+read-reply-requires c κs = tt
 
 enum-told-4 : tie.Need-enum-told-4
 enum-told-4 c = search needs
 
 ticks-reply-requires : tie.Need-ticks-reply-requires
-ticks-reply-requires c κs = search needs
+ticks-reply-requires c κs = tt
 
 enum-told-5 : tie.Need-enum-told-5
 enum-told-5 c = search needs
 
 tach-reply-requires : tie.Need-tach-reply-requires
-tach-reply-requires c κs = search needs
+tach-reply-requires c κs = tt
 
 enum-told-6 : tie.Need-enum-told-6
 enum-told-6 c = search needs
 
 pin-reply-requires : tie.Need-pin-reply-requires
-pin-reply-requires c κs = search needs
+pin-reply-requires c κs = tt
 
 enum-told-7 : tie.Need-enum-told-7
 enum-told-7 c = search needs
 
 cabin-reply-requires : tie.Need-cabin-reply-requires
-cabin-reply-requires c κs = search needs
+cabin-reply-requires c κs = tt
 
 enum-told-8 : tie.Need-enum-told-8
 enum-told-8 c = search needs
 
 fan-fail-reply-requires : tie.Need-fan-fail-reply-requires
-fan-fail-reply-requires c κs = search needs
+fan-fail-reply-requires c κs = tt
 
 enum-told-9 : tie.Need-enum-told-9
 enum-told-9 c = search needs
 
 speed-reply-requires : tie.Need-speed-reply-requires
-speed-reply-requires c κs = search needs
+speed-reply-requires c κs = tt
 
 enum-told-10 : tie.Need-enum-told-10
 enum-told-10 c = search needs
 
 dump-reply-requires : tie.Need-dump-reply-requires
-dump-reply-requires c κs = search needs
+dump-reply-requires c κs = tt
 
 enum-told-11 : tie.Need-enum-told-11
 enum-told-11 c = search needs
 
 load-reply-requires : tie.Need-load-reply-requires
-load-reply-requires c κs = search needs
+load-reply-requires c κs = tt
 
 enum-told-12 : tie.Need-enum-told-12
 enum-told-12 c = search needs
 
 put-show-requires : tie.Need-put-show-requires
-put-show-requires c κs = search needs
+put-show-requires c κs = tt
 
 replied-requires : tie.Need-replied-requires
-replied-requires c κs = search needs
+replied-requires c κs = tt
 
 enum-told-13 : tie.Need-enum-told-13
 enum-told-13 c = search needs
 
 value-requires : tie.Need-value-requires
-value-requires c κs = search needs
+value-requires c κs = tt
 
 put-chart-requires : tie.Need-put-chart-requires
-put-chart-requires c κs = search needs
+put-chart-requires c κs = tt
 
 replied-requires-2 : tie.Need-replied-requires-2
-replied-requires-2 c κs = search needs
+replied-requires-2 c κs = tt
 
 enum-told-14 : tie.Need-enum-told-14
 enum-told-14 c = search needs
 
 put-help-requires : tie.Need-put-help-requires
-put-help-requires c κs = search needs
+put-help-requires c κs = tt
 
 replied-requires-3 : tie.Need-replied-requires-3
-replied-requires-3 c κs = search needs
+replied-requires-3 c κs = tt
 
 same-length : tie.Need-same-length
 same-length c = search needs

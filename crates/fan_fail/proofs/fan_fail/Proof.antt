@@ -14,10 +14,10 @@ six : (c : tie.Start) → length (c .args .state .channels) ≡ 6
 six c = search (needs, length-before)
 
 valid-requires : tie.Need-valid-requires
-valid-requires c κs = search needs
+valid-requires c κs = tt
 
 answered-requires : tie.Need-answered-requires
-answered-requires c κs = search needs
+answered-requires c κs = tt
 
 returns : tie.Need-returns
 returns c =
@@ -26,10 +26,10 @@ returns c =
     (c .answered .ensures)
 
 fault-byte-requires : tie.Need-fault-byte-requires
-fault-byte-requires c κs = search needs
+fault-byte-requires c κs = tt
 
 answered-requires-2 : tie.Need-answered-requires-2
-answered-requires-2 c κs = search needs
+answered-requires-2 c κs = tt
 
 returns-2 : tie.Need-returns-2
 returns-2 c =
@@ -42,7 +42,7 @@ add-answered : tie.Need-add-answered
 add-answered c = record { fits = omega (arith, trailing-le 8 (unmasked (c .before .before .fault-byte .result) (c .before .before .before .before .before .before .args .state .registers .mask1))) }
 
 answered-requires-3 : tie.Need-answered-requires-3
-answered-requires-3 c κs = search needs
+answered-requires-3 c κs = tt
 
 returns-3 : tie.Need-returns-3
 returns-3 c =

@@ -26,7 +26,7 @@ part-channel-of-end : tie.Need-part-channel-of-end
 part-channel-of-end c = search needs
 
 channel-of-requires : tie.Need-channel-of-requires
-channel-of-requires c κs = search needs
+channel-of-requires c κs = tt
 
 returns : tie.Need-returns
 returns c =
@@ -37,7 +37,7 @@ slice-aggregate-channel-of : tie.Need-slice-aggregate-channel-of
 slice-aggregate-channel-of c = search needs
 
 channel-of-requires-2 : tie.Need-channel-of-requires-2
-channel-of-requires-2 c κs = search needs
+channel-of-requires-2 c κs = tt
 
 returns-2 : tie.Need-returns-2
 returns-2 c =

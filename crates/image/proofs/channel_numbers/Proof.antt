@@ -1,36 +1,35 @@
 -- `channel_numbers` meets its contract. Assumes nothing.
 use native.Mathlib.Omega.{arith}
 use Rattle.image.specs.Image.{Within}
-use borrow.Author.Needs.{needs}
 use Rattle.image.proofs.channel_numbers.Statement.{statement}
 use Rattle.image.proofs.channel_numbers.Tie as tie
 
 of-byte-requires : tie.Need-of-byte-requires
-of-byte-requires c κs = search needs
+of-byte-requires c κs = tt
 
 of-byte-requires-2 : tie.Need-of-byte-requires-2
-of-byte-requires-2 c κs = search needs
+of-byte-requires-2 c κs = tt
 
 of-word-requires : tie.Need-of-word-requires
-of-word-requires c κs = search needs
+of-word-requires c κs = tt
 
 of-word-requires-2 : tie.Need-of-word-requires-2
-of-word-requires-2 c κs = search needs
+of-word-requires-2 c κs = tt
 
 of-word-requires-3 : tie.Need-of-word-requires-3
-of-word-requires-3 c κs = search needs
+of-word-requires-3 c κs = tt
 
 of-word-requires-4 : tie.Need-of-word-requires-4
-of-word-requires-4 c κs = search needs
+of-word-requires-4 c κs = tt
 
 of-word-requires-5 : tie.Need-of-word-requires-5
-of-word-requires-5 c κs = search needs
+of-word-requires-5 c κs = tt
 
 of-byte-requires-3 : tie.Need-of-byte-requires-3
-of-byte-requires-3 c κs = search needs
+of-byte-requires-3 c κs = tt
 
 of-byte-requires-4 : tie.Need-of-byte-requires-4
-of-byte-requires-4 c κs = search needs
+of-byte-requires-4 c κs = tt
 
 returns : tie.Need-returns
 unfolding Within

@@ -6,7 +6,7 @@ use Rattle.image.proofs.faults.Statement.{statement}
 use Rattle.image.proofs.faults.Tie as tie
 
 fault-byte-requires : tie.Need-fault-byte-requires
-fault-byte-requires c κs = search needs
+fault-byte-requires c κs = tt
 
 cast-result : tie.Need-cast-result
 cast-result c = search needs

@@ -4,7 +4,7 @@ use Rattle.image.proofs.is_set.Statement.{statement}
 use Rattle.image.proofs.is_set.Tie as tie
 
 value-requires : tie.Need-value-requires
-value-requires c κs = search needs
+value-requires c κs = tt
 
 cast-result : tie.Need-cast-result
 cast-result c = search needs

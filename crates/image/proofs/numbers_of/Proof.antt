@@ -5,7 +5,7 @@ use Rattle.image.proofs.numbers_of.Statement.{statement}
 use Rattle.image.proofs.numbers_of.Tie as tie
 
 box-numbers-requires : tie.Need-box-numbers-requires
-box-numbers-requires c κs = search needs
+box-numbers-requires c κs = tt
 
 slice-aggregate-put-numbers : tie.Need-slice-aggregate-put-numbers
 slice-aggregate-put-numbers c = search needs

@@ -22,7 +22,7 @@ array-copy-out-channel-numbers : tie.Need-array-copy-out-channel-numbers Inv-loo
 array-copy-out-channel-numbers c = search needs
 
 channel-numbers-requires : tie.Need-channel-numbers-requires Inv-loop μ-loop
-channel-numbers-requires c κs = search needs
+channel-numbers-requires c κs = tt
 
 slice-aggregate-put-numbers : tie.Need-slice-aggregate-put-numbers Inv-loop μ-loop
 slice-aggregate-put-numbers c = search needs

@@ -1,20 +1,19 @@
 -- `start_of` meets its contract. Assumes nothing.
 use Rattle.image.specs.Image.{startFrom}
-use borrow.Author.Needs.{needs}
 use Rattle.image.proofs.start_of.Statement.{statement}
 use Rattle.image.proofs.start_of.Tie as tie
 
 byte-requires : tie.Need-byte-requires
-byte-requires c κs = search needs
+byte-requires c κs = tt
 
 byte-requires-2 : tie.Need-byte-requires-2
-byte-requires-2 c κs = search needs
+byte-requires-2 c κs = tt
 
 word-requires : tie.Need-word-requires
-word-requires c κs = search needs
+word-requires c κs = tt
 
 byte-requires-3 : tie.Need-byte-requires-3
-byte-requires-3 c κs = search needs
+byte-requires-3 c κs = tt
 
 returns : tie.Need-returns
 unfolding startFrom

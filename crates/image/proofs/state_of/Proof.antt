@@ -23,13 +23,13 @@ channel-at-requires-6 : tie.Need-channel-at-requires-6
 channel-at-requires-6 c κs = search needs
 
 registers-of-requires : tie.Need-registers-of-requires
-registers-of-requires c κs = search needs
+registers-of-requires c κs = tt
 
 start-of-requires : tie.Need-start-of-requires
-start-of-requires c κs = search needs
+start-of-requires c κs = tt
 
 timer-of-requires : tie.Need-timer-of-requires
-timer-of-requires c κs = search needs
+timer-of-requires c κs = tt
 
 is-set-requires : tie.Need-is-set-requires
 is-set-requires c κs = search needs

@@ -5,10 +5,10 @@ use Rattle.image.proofs.timer_of.Statement.{statement}
 use Rattle.image.proofs.timer_of.Tie as tie
 
 long-requires : tie.Need-long-requires
-long-requires c κs = search needs
+long-requires c κs = tt
 
 word-requires : tie.Need-word-requires
-word-requires c κs = search needs
+word-requires c κs = tt
 
 is-set-requires : tie.Need-is-set-requires
 is-set-requires c κs = search needs

@@ -3,25 +3,24 @@ use Rattle.laws.proofs.Promises.{not-valid, is-valid}
 use Rattle.rules.specs.Pin.{pinOf}
 use borrow.Author.Tests.{not-true, not-false}
 use mathlib.Core.Path.{sym, _∙_}
-use borrow.Author.Needs.{needs}
 use Rattle.pin.proofs.set_pin.Statement.{statement}
 use Rattle.pin.proofs.set_pin.Tie as tie
 
 valid-requires : tie.Need-valid-requires
-valid-requires c κs = search needs
+valid-requires c κs = tt
 
 answered-requires : tie.Need-answered-requires
-answered-requires c κs = search needs
+answered-requires c κs = tt
 
 returns : tie.Need-returns
 unfolding pinOf
 returns c = not-valid _ _ _ (sym (c .before .before .valid .ensures) ∙ not-true _ (c .before .if1 .taken)) (c .answered .ensures)
 
 with-pin-requires : tie.Need-with-pin-requires
-with-pin-requires c κs = search needs
+with-pin-requires c κs = tt
 
 answered-requires-2 : tie.Need-answered-requires-2
-answered-requires-2 c κs = search needs
+answered-requires-2 c κs = tt
 
 returns-2 : tie.Need-returns-2
 unfolding pinOf

@@ -8,7 +8,7 @@ enum-told : tie.Need-enum-told
 enum-told c = search needs
 
 control-byte-requires : tie.Need-control-byte-requires
-control-byte-requires c κs = search needs
+control-byte-requires c κs = tt
 
 enum-told-2 : tie.Need-enum-told-2
 enum-told-2 c = search needs

@@ -14,19 +14,19 @@ enum-known-register : tie.Need-enum-known-register
 enum-known-register c = search needs
 
 duty-word-requires : tie.Need-duty-word-requires
-duty-word-requires c κs = search needs
+duty-word-requires c κs = tt
 
 word-byte-requires : tie.Need-word-byte-requires
-word-byte-requires c κs = search needs
+word-byte-requires c κs = tt
 
 enum-known-register-2 : tie.Need-enum-known-register-2
 enum-known-register-2 c = search needs
 
 count-word-requires : tie.Need-count-word-requires
-count-word-requires c κs = search needs
+count-word-requires c κs = tt
 
 word-byte-requires-2 : tie.Need-word-byte-requires-2
-word-byte-requires-2 c κs = search needs
+word-byte-requires-2 c κs = tt
 
 enum-told-3 : tie.Need-enum-told-3
 enum-told-3 c = search needs

@@ -25,7 +25,7 @@ enum-known-place-2 : tie.Need-enum-known-place-2
 enum-known-place-2 c = search needs
 
 box-byte-requires : tie.Need-box-byte-requires
-box-byte-requires c κs = search needs
+box-byte-requires c κs = tt
 
 enum-known-place-3 : tie.Need-enum-known-place-3
 enum-known-place-3 c = search needs
@@ -37,7 +37,7 @@ element-copy-out-channel-byte : tie.Need-element-copy-out-channel-byte
 element-copy-out-channel-byte c = own-index c
 
 channel-byte-requires : tie.Need-channel-byte-requires
-channel-byte-requires c κs = search needs
+channel-byte-requires c κs = tt
 
 returns : tie.Need-returns
 unfolding placeByte

@@ -3,30 +3,29 @@ use Rattle.laws.proofs.Promises.{read-not-valid, read-refused, read-accepted}
 use Rattle.rules.proofs.Map.{place-below-six}
 use borrow.Author.Tests.{not-true, not-false}
 use mathlib.Core.Path.{sym, _∙_}
-use borrow.Author.Needs.{needs}
 use Rattle.read.proofs.read.Statement.{statement}
 use Rattle.read.proofs.read.Tie as tie
 
 valid-requires : tie.Need-valid-requires
-valid-requires c κs = search needs
+valid-requires c κs = tt
 
 read-answer-requires : tie.Need-read-answer-requires
-read-answer-requires c κs = search needs
+read-answer-requires c κs = tt
 
 returns : tie.Need-returns
 returns c = read-not-valid _ _ _ (sym (c .before .before .valid .ensures) ∙ not-true _ (c .before .if1 .taken)) (c .read-answer .ensures)
 
 place-at-requires : tie.Need-place-at-requires
-place-at-requires c κs = search needs
+place-at-requires c κs = tt
 
 after-read-requires : tie.Need-after-read-requires
-after-read-requires c κs = search needs
+after-read-requires c κs = tt
 
 is-carried-requires : tie.Need-is-carried-requires
-is-carried-requires c κs = search needs
+is-carried-requires c κs = tt
 
 read-answer-requires-2 : tie.Need-read-answer-requires-2
-read-answer-requires-2 c κs = search needs
+read-answer-requires-2 c κs = tt
 
 returns-2 : tie.Need-returns-2
 returns-2 c =
@@ -39,7 +38,7 @@ place-byte-requires : tie.Need-place-byte-requires
 place-byte-requires c κs = rw (c .before .before .before .place-at .ensures) (place-below-six _)
 
 read-answer-requires-3 : tie.Need-read-answer-requires-3
-read-answer-requires-3 c κs = search needs
+read-answer-requires-3 c κs = tt
 
 returns-3 : tie.Need-returns-3
 returns-3 c =

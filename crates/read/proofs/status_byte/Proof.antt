@@ -19,7 +19,7 @@ enum-told-2 : tie.Need-enum-told-2
 enum-told-2 c = search needs
 
 fault-byte-requires : tie.Need-fault-byte-requires
-fault-byte-requires c κs = search needs
+fault-byte-requires c κs = tt
 
 enum-known-register : tie.Need-enum-known-register
 enum-known-register c = search needs
@@ -31,16 +31,16 @@ element-copy-out-channel : tie.Need-element-copy-out-channel
 element-copy-out-channel c = listed (c .before .register .given .1) (c .before .before .before .pre)
 
 count-word-requires : tie.Need-count-word-requires
-count-word-requires c κs = search needs
+count-word-requires c κs = tt
 
 word-byte-requires : tie.Need-word-byte-requires
-word-byte-requires c κs = search needs
+word-byte-requires c κs = tt
 
 enum-known-register-2 : tie.Need-enum-known-register-2
 enum-known-register-2 c = search needs
 
 word-byte-requires-2 : tie.Need-word-byte-requires-2
-word-byte-requires-2 c κs = search needs
+word-byte-requires-2 c κs = tt
 
 enum-known-register-3 : tie.Need-enum-known-register-3
 enum-known-register-3 c = search needs
@@ -52,16 +52,16 @@ element-copy-out-channel-2 : tie.Need-element-copy-out-channel-2
 element-copy-out-channel-2 c = listed (c .before .register3 .given .1) (c .before .before .before .pre)
 
 conditions-requires : tie.Need-conditions-requires
-conditions-requires c κs = search needs
+conditions-requires c κs = tt
 
 output-duty-requires : tie.Need-output-duty-requires
-output-duty-requires c κs = search needs
+output-duty-requires c κs = tt
 
 output-word-requires : tie.Need-output-word-requires
-output-word-requires c κs = search needs
+output-word-requires c κs = tt
 
 word-byte-requires-3 : tie.Need-word-byte-requires-3
-word-byte-requires-3 c κs = search needs
+word-byte-requires-3 c κs = tt
 
 returns : tie.Need-returns
 unfolding statusByte

@@ -22,7 +22,7 @@ six : (c : tie.Start Inv-loop μ-loop) → length (c .args .state .channels) ≡
 six c = search (needs, length-before)
 
 conditions-requires : tie.Need-conditions-requires Inv-loop μ-loop
-conditions-requires c κs = search needs
+conditions-requires c κs = tt
 
 loop-holds : tie.Need-loop-holds Inv-loop μ-loop
 loop-holds c = filled-none _ (c .before .before .args .state .channels) _ (sym (six (c .before .before)))
@@ -34,10 +34,10 @@ array-copy-out-output-duty : tie.Need-array-copy-out-output-duty Inv-loop μ-loo
 array-copy-out-output-duty c = search needs
 
 output-duty-requires : tie.Need-output-duty-requires Inv-loop μ-loop
-output-duty-requires c κs = search needs
+output-duty-requires c κs = tt
 
 share-requires : tie.Need-share-requires Inv-loop μ-loop
-share-requires c κs = search needs
+share-requires c κs = tt
 
 over-512-requires : tie.Need-over-512-requires Inv-loop μ-loop
 over-512-requires c κs = search needs

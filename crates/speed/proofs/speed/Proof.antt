@@ -16,7 +16,7 @@ accepted : (c : tie.Else1) → Accepted (c .before .before .args .range) (c .bef
 accepted c = speed-accepted _ _ _ (not-refused c)
 
 refused-requires : tie.Need-refused-requires
-refused-requires c κs = search needs
+refused-requires c κs = tt
 
 returns : tie.Need-returns
 returns c = speed-refused _ _ _ (sym (c .before .refused .ensures) ∙ c .if1 .taken)

@@ -7,10 +7,10 @@ use Rattle.start.proofs.start.Statement.{statement}
 use Rattle.start.proofs.start.Tie as tie
 
 zero-state-requires : tie.Need-zero-state-requires
-zero-state-requires c κs = search needs
+zero-state-requires c κs = tt
 
 answered-requires : tie.Need-answered-requires
-answered-requires c κs = search needs
+answered-requires c κs = tt
 
 returns : tie.Need-returns
 unfolding startOf validStart
@@ -18,10 +18,10 @@ returns c =
     simp (le-ltb _ 4 (c .before .before .if1 .taken)) (rw (c .before .zero-state .ensures) at (c .answered .ensures))
 
 zero-state-requires-2 : tie.Need-zero-state-requires-2
-zero-state-requires-2 c κs = search needs
+zero-state-requires-2 c κs = tt
 
 answered-requires-2 : tie.Need-answered-requires-2
-answered-requires-2 c κs = search needs
+answered-requires-2 c κs = tt
 
 returns-2 : tie.Need-returns-2
 unfolding startOf validStart
@@ -30,10 +30,10 @@ returns-2 c =
     (rw (c .before .zero-state2 .ensures) at (c .answered2 .ensures))
 
 zero-state-requires-3 : tie.Need-zero-state-requires-3
-zero-state-requires-3 c κs = search needs
+zero-state-requires-3 c κs = tt
 
 answered-requires-3 : tie.Need-answered-requires-3
-answered-requires-3 c κs = search needs
+answered-requires-3 c κs = tt
 
 returns-3 : tie.Need-returns-3
 unfolding startOf validStart
@@ -51,10 +51,10 @@ cast-t12 : tie.Need-cast-t12
 cast-t12 c = search needs
 
 as-at-start-requires : tie.Need-as-at-start-requires
-as-at-start-requires c κs = search needs
+as-at-start-requires c κs = tt
 
 answered-requires-4 : tie.Need-answered-requires-4
-answered-requires-4 c κs = search needs
+answered-requires-4 c κs = tt
 
 returns-4 : tie.Need-returns-4
 unfolding startOf validStart

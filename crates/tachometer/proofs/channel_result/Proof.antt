@@ -1,29 +1,28 @@
 -- `tachometer::channel_result` meets its contract: each part is what its definition says. Assumes nothing.
 use Rattle.rules.specs.Tachometer.{channelResult}
-use borrow.Author.Needs.{needs}
 use Rattle.tachometer.proofs.channel_result.Statement.{statement}
 use Rattle.tachometer.proofs.channel_result.Tie as tie
 
 stored-count-requires : tie.Need-stored-count-requires
-stored-count-requires c κs = search needs
+stored-count-requires c κs = tt
 
 tachometer-enabled-requires : tie.Need-tachometer-enabled-requires
-tachometer-enabled-requires c κs = search needs
+tachometer-enabled-requires c κs = tt
 
 judged-requires : tie.Need-judged-requires
-judged-requires c κs = search needs
+judged-requires c κs = tt
 
 is-bad-requires : tie.Need-is-bad-requires
-is-bad-requires c κs = search needs
+is-bad-requires c κs = tt
 
 results-of-requires : tie.Need-results-of-requires
-results-of-requires c κs = search needs
+results-of-requires c κs = tt
 
 result-taken-requires : tie.Need-result-taken-requires
-result-taken-requires c κs = search needs
+result-taken-requires c κs = tt
 
 with-results-requires : tie.Need-with-results-requires
-with-results-requires c κs = search needs
+with-results-requires c κs = tt
 
 returns : tie.Need-returns
 unfolding channelResult

@@ -1,14 +1,13 @@
 -- `tachometer::judged` meets its contract. Assumes nothing.
 use Rattle.rules.specs.Tachometer.{judged}
-use borrow.Author.Needs.{needs}
 use Rattle.tachometer.proofs.judged.Statement.{statement}
 use Rattle.tachometer.proofs.judged.Tie as tie
 
 output-duty-requires : tie.Need-output-duty-requires
-output-duty-requires c κs = search needs
+output-duty-requires c κs = tt
 
 monitor-only-requires : tie.Need-monitor-only-requires
-monitor-only-requires c κs = search needs
+monitor-only-requires c κs = tt
 
 returns : tie.Need-returns
 unfolding judged

@@ -1,6 +1,5 @@
 -- `tachometer::result_taken` meets its contract. Assumes nothing.
 use Rattle.rules.specs.Tachometer.{resultTaken}
-use borrow.Author.Needs.{needs}
 use Rattle.tachometer.proofs.result_taken.Statement.{statement}
 use Rattle.tachometer.proofs.result_taken.Tie as tie
 
@@ -9,21 +8,21 @@ unfolding resultTaken
 returns c = simp (c .if1 .taken)
 
 results-requires : tie.Need-results-requires
-results-requires c κs = search needs
+results-requires c κs = tt
 
 returns-2 : tie.Need-returns-2
 unfolding resultTaken
 returns-2 c = simp (c .before .before .if1 .left, c .before .if2 .taken) (c .results .ensures)
 
 bad-result-requires : tie.Need-bad-result-requires
-bad-result-requires c κs = search needs
+bad-result-requires c κs = tt
 
 returns-3 : tie.Need-returns-3
 unfolding resultTaken
 returns-3 c = simp (c .before .before .before .if1 .left, c .before .before .if2 .left, c .before .if3 .taken) (c .bad-result .ensures)
 
 results-requires-2 : tie.Need-results-requires-2
-results-requires-2 c κs = search needs
+results-requires-2 c κs = tt
 
 returns-4 : tie.Need-returns-4
 unfolding resultTaken

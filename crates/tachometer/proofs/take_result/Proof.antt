@@ -14,20 +14,20 @@ in-range : (c : tie.Else2) → (1 ≤ c .before .before .before .before .args .c
 in-range c = channel-in-range _ (sym (c .before .is-channel .ensures) ∙ not-false _ (c .if2 .left))
 
 valid-requires : tie.Need-valid-requires
-valid-requires c κs = search needs
+valid-requires c κs = tt
 
 answered-requires : tie.Need-answered-requires
-answered-requires c κs = search needs
+answered-requires c κs = tt
 
 returns : tie.Need-returns
 unfolding resultOf
 returns c = not-valid _ _ _ (sym (c .before .before .valid .ensures) ∙ not-true _ (c .before .if1 .taken)) (c .answered .ensures)
 
 is-channel-requires : tie.Need-is-channel-requires
-is-channel-requires c κs = search needs
+is-channel-requires c κs = tt
 
 answered-requires-2 : tie.Need-answered-requires-2
-answered-requires-2 c κs = search needs
+answered-requires-2 c κs = tt
 
 returns-2 : tie.Need-returns-2
 unfolding resultOf
@@ -45,7 +45,7 @@ with-result-requires : tie.Need-with-result-requires
 with-result-requires c κs = omega (arith, in-range c .0, in-range c .1)
 
 answered-requires-3 : tie.Need-answered-requires-3
-answered-requires-3 c κs = search needs
+answered-requires-3 c κs = tt
 
 returns-3 : tie.Need-returns-3
 unfolding resultOf

@@ -4,13 +4,13 @@ use Rattle.tachometer.proofs.with_result.Statement.{statement}
 use Rattle.tachometer.proofs.with_result.Tie as tie
 
 queue-code-requires : tie.Need-queue-code-requires
-queue-code-requires c κs = search needs
+queue-code-requires c κs = tt
 
 queue-length-requires : tie.Need-queue-length-requires
-queue-length-requires c κs = search needs
+queue-length-requires c κs = tt
 
 conditions-requires : tie.Need-conditions-requires
-conditions-requires c κs = search needs
+conditions-requires c κs = tt
 
 mul-channel-result : tie.Need-mul-channel-result
 mul-channel-result c = search needs
@@ -19,7 +19,7 @@ element-copy-out-channel-result : tie.Need-element-copy-out-channel-result
 element-copy-out-channel-result c = search needs
 
 channel-result-requires : tie.Need-channel-result-requires
-channel-result-requires c κs = search needs
+channel-result-requires c κs = tt
 
 mul-t16 : tie.Need-mul-t16
 mul-t16 c = search needs

@@ -30,10 +30,10 @@ array-copy-out-channel : tie.Need-array-copy-out-channel Inv-loop μ-loop
 array-copy-out-channel c = search needs
 
 overridden-requires : tie.Need-overridden-requires Inv-loop μ-loop
-overridden-requires c κs = search needs
+overridden-requires c κs = tt
 
 channel-after-requires : tie.Need-channel-after-requires Inv-loop μ-loop
-channel-after-requires c κs = search needs
+channel-after-requires c κs = tt
 
 mul-next : tie.Need-mul-next Inv-loop μ-loop
 mul-next c = omega arith

@@ -1,10 +1,9 @@
 -- `is_counting` meets its contract. Assumes nothing.
-use borrow.Author.Needs.{needs}
 use Rattle.ticks.proofs.is_counting.Statement.{statement}
 use Rattle.ticks.proofs.is_counting.Tie as tie
 
 watchdog-code-requires : tie.Need-watchdog-code-requires
-watchdog-code-requires c κs = search needs
+watchdog-code-requires c κs = tt
 
 returns : tie.Need-returns
 returns c = simp (c .before .watchdog-code .ensures)

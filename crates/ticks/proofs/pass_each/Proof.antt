@@ -22,10 +22,10 @@ abbrev μ-loop : tie.MeasureT-loop
 μ-loop elapsed last₀ made₀ last made = length elapsed - made
 
 valid-requires : tie.Need-valid-requires Inv-loop μ-loop
-valid-requires c κs = search needs
+valid-requires c κs = tt
 
 answered-requires : tie.Need-answered-requires Inv-loop μ-loop
-answered-requires c κs = search needs
+answered-requires c κs = tt
 
 returns : tie.Need-returns Inv-loop μ-loop
 unfolding eachPassed
@@ -41,7 +41,7 @@ shared-slice-read-pass-ticks : tie.Need-shared-slice-read-pass-ticks Inv-loop μ
 shared-slice-read-pass-ticks c = search needs
 
 pass-ticks-requires : tie.Need-pass-ticks-requires Inv-loop μ-loop
-pass-ticks-requires c κs = search needs
+pass-ticks-requires c κs = tt
 
 add-made : tie.Need-add-made Inv-loop μ-loop
 add-made c = search needs
@@ -62,7 +62,7 @@ loop-again c =
     )
 
 answered-requires-2 : tie.Need-answered-requires-2 Inv-loop μ-loop
-answered-requires-2 c κs = search needs
+answered-requires-2 c κs = tt
 
 returns-2 : tie.Need-returns-2 Inv-loop μ-loop
 unfolding afterEach eachPassed

@@ -3,15 +3,14 @@ use Rattle.laws.proofs.Promises.{not-valid, is-valid}
 use Rattle.rules.specs.Tick.{ticksPassed}
 use borrow.Author.Tests.{not-true, not-false}
 use mathlib.Core.Path.{sym, _∙_}
-use borrow.Author.Needs.{needs}
 use Rattle.ticks.proofs.pass_ticks.Statement.{statement}
 use Rattle.ticks.proofs.pass_ticks.Tie as tie
 
 valid-requires : tie.Need-valid-requires
-valid-requires c κs = search needs
+valid-requires c κs = tt
 
 answered-requires : tie.Need-answered-requires
-answered-requires c κs = search needs
+answered-requires c κs = tt
 
 returns : tie.Need-returns
 unfolding ticksPassed
@@ -21,7 +20,7 @@ passed-requires : tie.Need-passed-requires
 passed-requires c κs = sym (c .before .valid .ensures) ∙ not-false _ (c .if1 .left)
 
 answered-requires-2 : tie.Need-answered-requires-2
-answered-requires-2 c κs = search needs
+answered-requires-2 c κs = tt
 
 returns-2 : tie.Need-returns-2
 unfolding ticksPassed

@@ -23,16 +23,16 @@ module _ (c : tie.Then1) where
   below = let start = c .before .before .before .before .before .before in counting-below (start .args .state) (start .pre) counts
 
 conditions-requires : tie.Need-conditions-requires
-conditions-requires c κs = search needs
+conditions-requires c κs = tt
 
 wrapping-add-u32-requires : tie.Need-wrapping-add-u32-requires
-wrapping-add-u32-requires c κs = search needs
+wrapping-add-u32-requires c κs = tt
 
 is-counting-requires : tie.Need-is-counting-requires
-is-counting-requires c κs = search needs
+is-counting-requires c κs = tt
 
 idle-limit-requires : tie.Need-idle-limit-requires
-idle-limit-requires c κs = search needs
+idle-limit-requires c κs = tt
 
 sub-room : tie.Need-sub-room
 sub-room c = omega (arith, below (c .before .before), c .before .idle-limit .ensures)
@@ -44,7 +44,7 @@ cast-if2 : tie.Need-cast-if2
 cast-if2 c = search needs
 
 channels-after-requires : tie.Need-channels-after-requires
-channels-after-requires c κs = search needs
+channels-after-requires c κs = tt
 
 cast-timed : tie.Need-cast-timed
 cast-timed c = search needs
@@ -53,7 +53,7 @@ add-timed : tie.Need-add-timed
 add-timed c = search needs
 
 timed-requires : tie.Need-timed-requires
-timed-requires c κs = search needs
+timed-requires c κs = tt
 
 returns : tie.Need-returns
 unfolding channelsAfter
@@ -68,10 +68,10 @@ cast-channels-after : tie.Need-cast-channels-after
 cast-channels-after c = search needs
 
 channels-after-requires-2 : tie.Need-channels-after-requires-2
-channels-after-requires-2 c κs = search needs
+channels-after-requires-2 c κs = tt
 
 timed-requires-2 : tie.Need-timed-requires-2
-timed-requires-2 c κs = search needs
+timed-requires-2 c κs = tt
 
 returns-2 : tie.Need-returns-2
 unfolding channelsAfter
@@ -83,10 +83,10 @@ returns-2 c =
     (sym (expiring-ticks (start .args .state) (counts on) (below on) (start .args .ticks) (omega (arith, limit, c .before .before .if2 .left))))
 
 channels-after-requires-3 : tie.Need-channels-after-requires-3
-channels-after-requires-3 c κs = search needs
+channels-after-requires-3 c κs = tt
 
 timed-requires-3 : tie.Need-timed-requires-3
-timed-requires-3 c κs = search needs
+timed-requires-3 c κs = tt
 
 returns-3 : tie.Need-returns-3
 unfolding channelsAfter

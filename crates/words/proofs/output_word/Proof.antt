@@ -1,7 +1,6 @@
 -- `output_word` meets its contract. Assumes nothing.
 use native.Mathlib.Nat.{add-zero}
 use borrow.Author.Tests.{ne-eqb}
-use borrow.Author.Needs.{needs}
 use Rattle.words.proofs.output_word.Statement.{statement}
 use Rattle.words.proofs.output_word.Tie as tie
 
@@ -9,7 +8,7 @@ returns : tie.Need-returns
 returns c = simp (c .if1 .taken)
 
 duty-word-requires : tie.Need-duty-word-requires
-duty-word-requires c κs = search needs
+duty-word-requires c κs = tt
 
 returns-2 : tie.Need-returns-2
 returns-2 c = simp (ne-eqb _ 511 (c .before .if1 .left), add-zero) (c .duty-word .ensures)

@@ -29,7 +29,7 @@ array-copy-out-stopped : tie.Need-array-copy-out-stopped Inv-loop μ-loop
 array-copy-out-stopped c = search needs
 
 stopped-requires : tie.Need-stopped-requires Inv-loop μ-loop
-stopped-requires c κs = search needs
+stopped-requires c κs = tt
 
 mul-next : tie.Need-mul-next Inv-loop μ-loop
 mul-next c = omega arith

@@ -8,7 +8,7 @@ enum-told : tie.Need-enum-told
 enum-told c = search needs
 
 control-written-requires : tie.Need-control-written-requires
-control-written-requires c κs = search needs
+control-written-requires c κs = tt
 
 enum-told-2 : tie.Need-enum-told-2
 enum-told-2 c = search needs
@@ -17,19 +17,19 @@ enum-told-3 : tie.Need-enum-told-3
 enum-told-3 c = search needs
 
 mask-kept-requires : tie.Need-mask-kept-requires
-mask-kept-requires c κs = search needs
+mask-kept-requires c κs = tt
 
 enum-told-4 : tie.Need-enum-told-4
 enum-told-4 c = search needs
 
 mask-kept-requires-2 : tie.Need-mask-kept-requires-2
-mask-kept-requires-2 c κs = search needs
+mask-kept-requires-2 c κs = tt
 
 enum-told-5 : tie.Need-enum-told-5
 enum-told-5 c = search needs
 
 options-kept-requires : tie.Need-options-kept-requires
-options-kept-requires c κs = search needs
+options-kept-requires c κs = tt
 
 returns : tie.Need-returns
 unfolding boxWritten

@@ -8,7 +8,7 @@ enum-told : tie.Need-enum-told
 enum-told c = search needs
 
 config-refused-requires : tie.Need-config-refused-requires
-config-refused-requires c κs = search needs
+config-refused-requires c κs = tt
 
 returns : tie.Need-returns
 returns c = simp (c .before .before .enum-told .given .1, sym (c .before .config-refused .ensures) ∙ c .if1 .taken)

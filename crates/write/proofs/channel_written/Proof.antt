@@ -8,37 +8,37 @@ enum-told : tie.Need-enum-told
 enum-told c = search needs
 
 configured-requires : tie.Need-configured-requires
-configured-requires c κs = search needs
+configured-requires c κs = tt
 
 enum-told-2 : tie.Need-enum-told-2
 enum-told-2 c = search needs
 
 dynamics-kept-requires : tie.Need-dynamics-kept-requires
-dynamics-kept-requires c κs = search needs
+dynamics-kept-requires c κs = tt
 
 enum-known-register : tie.Need-enum-known-register
 enum-known-register c = search needs
 
 duty-word-requires : tie.Need-duty-word-requires
-duty-word-requires c κs = search needs
+duty-word-requires c κs = tt
 
 with-byte-requires : tie.Need-with-byte-requires
-with-byte-requires c κs = search needs
+with-byte-requires c κs = tt
 
 word-duty-requires : tie.Need-word-duty-requires
-word-duty-requires c κs = search needs
+word-duty-requires c κs = tt
 
 enum-known-register-2 : tie.Need-enum-known-register-2
 enum-known-register-2 c = search needs
 
 count-word-requires : tie.Need-count-word-requires
-count-word-requires c κs = search needs
+count-word-requires c κs = tt
 
 with-byte-requires-2 : tie.Need-with-byte-requires-2
-with-byte-requires-2 c κs = search needs
+with-byte-requires-2 c κs = tt
 
 word-count-requires : tie.Need-word-count-requires
-word-count-requires c κs = search needs
+word-count-requires c κs = tt
 
 enum-told-3 : tie.Need-enum-told-3
 enum-told-3 c = search needs

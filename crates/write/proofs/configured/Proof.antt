@@ -1,15 +1,14 @@
 -- `write::configured` meets its contract. Assumes nothing.
 use mathlib.Core.Path.{sym, _∙_}
 use Rattle.rules.specs.Write.{channelWritten}
-use borrow.Author.Needs.{needs}
 use Rattle.write.proofs.configured.Statement.{statement}
 use Rattle.write.proofs.configured.Tie as tie
 
 monitor-only-requires : tie.Need-monitor-only-requires
-monitor-only-requires c κs = search needs
+monitor-only-requires c κs = tt
 
 stopped-requires : tie.Need-stopped-requires
-stopped-requires c κs = search needs
+stopped-requires c κs = tt
 
 returns : tie.Need-returns
 unfolding channelWritten

@@ -2,25 +2,24 @@
 use mathlib.Core.Path.{sym, _∙_}
 use borrow.Author.Tests.{eq-eqb, ne-eqb}
 use Rattle.rules.specs.Write.{boxWritten}
-use borrow.Author.Needs.{needs}
 use Rattle.write.proofs.control_written.Statement.{statement}
 use Rattle.write.proofs.control_written.Tie as tie
 
 as-at-start-requires : tie.Need-as-at-start-requires
-as-at-start-requires c κs = search needs
+as-at-start-requires c κs = tt
 
 returns : tie.Need-returns
 unfolding boxWritten
 returns c = simp (eq-eqb _ 1 (c .before .before .if1 .taken)) (c .as-at-start .ensures)
 
 control-kept-requires : tie.Need-control-kept-requires
-control-kept-requires c κs = search needs
+control-kept-requires c κs = tt
 
 standby-requires : tie.Need-standby-requires
-standby-requires c κs = search needs
+standby-requires c κs = tt
 
 all-stopped-requires : tie.Need-all-stopped-requires
-all-stopped-requires c κs = search needs
+all-stopped-requires c κs = tt
 
 returns-2 : tie.Need-returns-2
 unfolding boxWritten

@@ -10,7 +10,7 @@ element-copy-out-channel-written : tie.Need-element-copy-out-channel-written
 element-copy-out-channel-written c = search needs
 
 channel-written-requires : tie.Need-channel-written-requires
-channel-written-requires c κs = search needs
+channel-written-requires c κs = tt
 
 mul-t13 : tie.Need-mul-t13
 mul-t13 c = search needs

@@ -4,31 +4,30 @@ use Rattle.rules.proofs.Map.{place-below-six}
 use Rattle.rules.specs.Write.{writeOf}
 use borrow.Author.Tests.{not-true, not-false}
 use mathlib.Core.Path.{sym, _∙_}
-use borrow.Author.Needs.{needs}
 use Rattle.write.proofs.write.Statement.{statement}
 use Rattle.write.proofs.write.Tie as tie
 
 valid-requires : tie.Need-valid-requires
-valid-requires c κs = search needs
+valid-requires c κs = tt
 
 answered-requires : tie.Need-answered-requires
-answered-requires c κs = search needs
+answered-requires c κs = tt
 
 returns : tie.Need-returns
 unfolding writeOf
 returns c = not-valid _ _ _ (sym (c .before .before .valid .ensures) ∙ not-true _ (c .before .if1 .taken)) (c .answered .ensures)
 
 accessed-requires : tie.Need-accessed-requires
-accessed-requires c κs = search needs
+accessed-requires c κs = tt
 
 place-at-requires : tie.Need-place-at-requires
-place-at-requires c κs = search needs
+place-at-requires c κs = tt
 
 write-refusal-requires : tie.Need-write-refusal-requires
-write-refusal-requires c κs = search needs
+write-refusal-requires c κs = tt
 
 answered-requires-2 : tie.Need-answered-requires-2
-answered-requires-2 c κs = search needs
+answered-requires-2 c κs = tt
 
 returns-2 : tie.Need-returns-2
 returns-2 c =
@@ -42,7 +41,7 @@ written-requires : tie.Need-written-requires
 written-requires c κs = rw (c .before .before .place-at .ensures) (place-below-six _)
 
 answered-requires-3 : tie.Need-answered-requires-3
-answered-requires-3 c κs = search needs
+answered-requires-3 c κs = tt
 
 returns-3 : tie.Need-returns-3
 returns-3 c =

@@ -18,7 +18,7 @@ enum-known-place : tie.Need-enum-known-place
 enum-known-place c = search needs
 
 byte-refusal-requires : tie.Need-byte-refusal-requires
-byte-refusal-requires c κs = search needs
+byte-refusal-requires c κs = tt
 
 returns : tie.Need-returns
 unfolding writeRefusal

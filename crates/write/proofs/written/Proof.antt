@@ -19,7 +19,7 @@ enum-known-place : tie.Need-enum-known-place
 enum-known-place c = search needs
 
 box-written-requires : tie.Need-box-written-requires
-box-written-requires c κs = search needs
+box-written-requires c κs = tt
 
 enum-known-place-2 : tie.Need-enum-known-place-2
 enum-known-place-2 c = search needs

@@ -6,10 +6,10 @@ use Rattle.answers.proofs.line.put_line.Statement.{statement}
 use Rattle.answers.proofs.line.put_line.Tie as tie
 
 put-decimal-requires : tie.Need-put-decimal-requires
-put-decimal-requires c κs = search needs
+put-decimal-requires c κs = tt
 
 put-spaced-requires : tie.Need-put-spaced-requires
-put-spaced-requires c κs = search needs
+put-spaced-requires c κs = tt
 
 end-line-requires : tie.Need-end-line-requires
 end-line-requires c κs = search needs

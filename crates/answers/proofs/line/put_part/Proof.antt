@@ -8,10 +8,10 @@ slice-aggregate-put : tie.Need-slice-aggregate-put
 slice-aggregate-put c = search needs
 
 put-requires : tie.Need-put-requires
-put-requires c κs = search needs
+put-requires c κs = tt
 
 put-512ths-requires : tie.Need-put-512ths-requires
-put-512ths-requires c κs = search needs
+put-512ths-requires c κs = tt
 
 same-length : tie.Need-same-length
 same-length c = search needs

@@ -25,7 +25,7 @@ array-read-part : tie.Need-array-read-part Inv-loop μ-loop
 array-read-part c = search needs
 
 put-part-requires : tie.Need-put-part-requires Inv-loop μ-loop
-put-part-requires c κs = search needs
+put-part-requires c κs = tt
 
 add-i : tie.Need-add-i Inv-loop μ-loop
 add-i c = search needs

@@ -5,19 +5,19 @@ use Rattle.answers.proofs.replies.cabin_reply.Statement.{statement}
 use Rattle.answers.proofs.replies.cabin_reply.Tie as tie
 
 reading-requires : tie.Need-reading-requires
-reading-requires c κs = search needs
+reading-requires c κs = tt
 
 with-state-requires : tie.Need-with-state-requires
-with-state-requires c κs = search needs
+with-state-requires c κs = tt
 
 cast-put-cabin : tie.Need-cast-put-cabin
 cast-put-cabin c = search needs
 
 put-cabin-requires : tie.Need-put-cabin-requires
-put-cabin-requires c κs = search needs
+put-cabin-requires c κs = tt
 
 replied-requires : tie.Need-replied-requires
-replied-requires c κs = search needs
+replied-requires c κs = tt
 
 same-length : tie.Need-same-length
 same-length c = search needs

@@ -4,7 +4,7 @@ use Rattle.answers.proofs.replies.call_reply.Statement.{statement}
 use Rattle.answers.proofs.replies.call_reply.Tie as tie
 
 make-requires : tie.Need-make-requires
-make-requires c κs = search needs
+make-requires c κs = tt
 
 cast-numbers-reply : tie.Need-cast-numbers-reply
 cast-numbers-reply c = search needs
@@ -13,7 +13,7 @@ slice-aggregate-numbers-reply : tie.Need-slice-aggregate-numbers-reply
 slice-aggregate-numbers-reply c = search needs
 
 numbers-reply-requires : tie.Need-numbers-reply-requires
-numbers-reply-requires c κs = search needs
+numbers-reply-requires c κs = tt
 
 same-length : tie.Need-same-length
 same-length c = search needs

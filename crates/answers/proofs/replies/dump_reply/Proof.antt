@@ -5,7 +5,7 @@ use Rattle.answers.proofs.replies.dump_reply.Statement.{statement}
 use Rattle.answers.proofs.replies.dump_reply.Tie as tie
 
 numbers-of-requires : tie.Need-numbers-of-requires
-numbers-of-requires c κs = search needs
+numbers-of-requires c κs = tt
 
 array-read-numbers-reply : tie.Need-array-read-numbers-reply
 array-read-numbers-reply c = search needs
@@ -20,7 +20,7 @@ part-numbers-reply-end : tie.Need-part-numbers-reply-end
 part-numbers-reply-end c = search needs
 
 numbers-reply-requires : tie.Need-numbers-reply-requires
-numbers-reply-requires c κs = search needs
+numbers-reply-requires c κs = tt
 
 same-length : tie.Need-same-length
 same-length c = search needs

@@ -4,10 +4,10 @@ use Rattle.answers.proofs.replies.fan_fail_reply.Statement.{statement}
 use Rattle.answers.proofs.replies.fan_fail_reply.Tie as tie
 
 fan-fail-requires : tie.Need-fan-fail-requires
-fan-fail-requires c κs = search needs
+fan-fail-requires c κs = tt
 
 flag-requires : tie.Need-flag-requires
-flag-requires c κs = search needs
+flag-requires c κs = tt
 
 cast-numbers-reply : tie.Need-cast-numbers-reply
 cast-numbers-reply c = search needs
@@ -16,7 +16,7 @@ slice-aggregate-numbers-reply : tie.Need-slice-aggregate-numbers-reply
 slice-aggregate-numbers-reply c = search needs
 
 numbers-reply-requires : tie.Need-numbers-reply-requires
-numbers-reply-requires c κs = search needs
+numbers-reply-requires c κs = tt
 
 same-length : tie.Need-same-length
 same-length c = search needs

@@ -7,10 +7,10 @@ use Rattle.answers.proofs.replies.put_cabin.Statement.{statement}
 use Rattle.answers.proofs.replies.put_cabin.Tie as tie
 
 put-decimal-requires : tie.Need-put-decimal-requires
-put-decimal-requires c κs = search needs
+put-decimal-requires c κs = tt
 
 put-reading-requires : tie.Need-put-reading-requires
-put-reading-requires c κs = search needs
+put-reading-requires c κs = tt
 
 end-line-requires : tie.Need-end-line-requires
 end-line-requires c κs = search needs

@@ -4,19 +4,19 @@ use Rattle.answers.proofs.replies.speed_reply.Statement.{statement}
 use Rattle.answers.proofs.replies.speed_reply.Tie as tie
 
 speed-by-requires : tie.Need-speed-by-requires
-speed-by-requires c κs = search needs
+speed-by-requires c κs = tt
 
 speed-refusal-requires : tie.Need-speed-refusal-requires
-speed-refusal-requires c κs = search needs
+speed-refusal-requires c κs = tt
 
 speed-value-requires : tie.Need-speed-value-requires
-speed-value-requires c κs = search needs
+speed-value-requires c κs = tt
 
 slice-aggregate-numbers-reply : tie.Need-slice-aggregate-numbers-reply
 slice-aggregate-numbers-reply c = search needs
 
 numbers-reply-requires : tie.Need-numbers-reply-requires
-numbers-reply-requires c κs = search needs
+numbers-reply-requires c κs = tt
 
 same-length : tie.Need-same-length
 same-length c = search needs

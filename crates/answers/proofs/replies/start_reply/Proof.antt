@@ -4,7 +4,7 @@ use Rattle.answers.proofs.replies.start_reply.Statement.{statement}
 use Rattle.answers.proofs.replies.start_reply.Tie as tie
 
 start-by-requires : tie.Need-start-by-requires
-start-by-requires c κs = search needs
+start-by-requires c κs = tt
 
 cast-numbers-reply : tie.Need-cast-numbers-reply
 cast-numbers-reply c = search needs
@@ -13,7 +13,7 @@ slice-aggregate-numbers-reply : tie.Need-slice-aggregate-numbers-reply
 slice-aggregate-numbers-reply c = search needs
 
 numbers-reply-requires : tie.Need-numbers-reply-requires
-numbers-reply-requires c κs = search needs
+numbers-reply-requires c κs = tt
 
 same-length : tie.Need-same-length
 same-length c = search needs

@@ -4,13 +4,13 @@ use Rattle.answers.proofs.replies.tach_reply.Statement.{statement}
 use Rattle.answers.proofs.replies.tach_reply.Tie as tie
 
 value-requires : tie.Need-value-requires
-value-requires c κs = search needs
+value-requires c κs = tt
 
 value-requires-2 : tie.Need-value-requires-2
-value-requires-2 c κs = search needs
+value-requires-2 c κs = tt
 
 call-reply-requires : tie.Need-call-reply-requires
-call-reply-requires c κs = search needs
+call-reply-requires c κs = tt
 
 same-length : tie.Need-same-length
 same-length c = search needs

@@ -4,10 +4,10 @@ use Rattle.answers.proofs.replies.ticks_reply.Statement.{statement}
 use Rattle.answers.proofs.replies.ticks_reply.Tie as tie
 
 value-requires : tie.Need-value-requires
-value-requires c κs = search needs
+value-requires c κs = tt
 
 call-reply-requires : tie.Need-call-reply-requires
-call-reply-requires c κs = search needs
+call-reply-requires c κs = tt
 
 same-length : tie.Need-same-length
 same-length c = search needs

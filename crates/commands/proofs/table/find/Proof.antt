@@ -16,7 +16,7 @@ abbrev μ-loop : tie.MeasureT-loop
 μ-loop word commands i₀ i = length rows - i
 
 table-requires : tie.Need-table-requires Inv-loop μ-loop
-table-requires c κs = search needs
+table-requires c κs = tt
 
 loop-holds : tie.Need-loop-holds Inv-loop μ-loop
 unfolding namedBy

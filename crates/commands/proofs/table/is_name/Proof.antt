@@ -1,7 +1,6 @@
 -- `table::is_name` meets its contract. Assumes nothing.
 use mathlib.Core.Path.{sym}
 use lib.Seq.{length-take-le}
-use borrow.Author.Needs.{needs}
 use Rattle.commands.proofs.Names.{decides}
 use Rattle.commands.proofs.table.is_name.Statement.{statement}
 use Rattle.commands.proofs.table.is_name.Tie as tie
@@ -10,7 +9,7 @@ slice-aggregate-same : tie.Need-slice-aggregate-same
 slice-aggregate-same c = sym (length-take-le _ _ (c .before .before .before .pre))
 
 same-requires : tie.Need-same-requires
-same-requires c κs = search needs
+same-requires c κs = tt
 
 returns : tie.Need-returns
 returns c = decides _ _ _ (c .same .ensures)

@@ -7,13 +7,13 @@ use Rattle.commands.proofs.table.put_usage.Statement.{statement}
 use Rattle.commands.proofs.table.put_usage.Tie as tie
 
 table-requires : tie.Need-table-requires
-table-requires c κs = search needs
+table-requires c κs = tt
 
 slice-aggregate-put : tie.Need-slice-aggregate-put
 slice-aggregate-put c = search needs
 
 put-requires : tie.Need-put-requires
-put-requires c κs = search needs
+put-requires c κs = tt
 
 same-length : tie.Need-same-length
 same-length c = search needs

@@ -1,18 +1,17 @@
 -- `duty::conditions` meets its contract. Assumes nothing.
 use Rattle.laws.proofs.Faults.{some-fault}
 use Rattle.rules.specs.Duty.{conditionsOf}
-use borrow.Author.Needs.{needs}
 use Rattle.device.proofs.duty.conditions.Statement.{statement}
 use Rattle.device.proofs.duty.conditions.Tie as tie
 
 standby-requires : tie.Need-standby-requires
-standby-requires c κs = search needs
+standby-requires c κs = tt
 
 failed-fan-option-requires : tie.Need-failed-fan-option-requires
-failed-fan-option-requires c κs = search needs
+failed-fan-option-requires c κs = tt
 
 fault-byte-requires : tie.Need-fault-byte-requires
-fault-byte-requires c κs = search needs
+fault-byte-requires c κs = tt
 
 returns : tie.Need-returns
 unfolding conditionsOf

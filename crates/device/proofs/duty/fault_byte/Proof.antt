@@ -40,7 +40,7 @@ element-copy-out-flag : tie.Need-element-copy-out-flag Inv-loop μ-loop
 element-copy-out-flag c = omega arith
 
 flag-requires : tie.Need-flag-requires Inv-loop μ-loop
-flag-requires c κs = search needs
+flag-requires c κs = tt
 
 add-byte : tie.Need-add-byte Inv-loop μ-loop
 add-byte c = omega (arith, small (c .before))

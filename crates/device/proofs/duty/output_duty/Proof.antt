@@ -6,7 +6,7 @@ use Rattle.device.proofs.duty.output_duty.Statement.{statement}
 use Rattle.device.proofs.duty.output_duty.Tie as tie
 
 override-of-requires : tie.Need-override-of-requires
-override-of-requires c κs = search needs
+override-of-requires c κs = tt
 
 enum-known-forced : tie.Need-enum-known-forced
 enum-known-forced c = search needs
@@ -15,7 +15,7 @@ enum-told : tie.Need-enum-told
 enum-told c = search needs
 
 own-duty-requires : tie.Need-own-duty-requires
-own-duty-requires c κs = search needs
+own-duty-requires c κs = tt
 
 returns : tie.Need-returns
 unfolding outputDuty

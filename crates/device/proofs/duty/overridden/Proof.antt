@@ -6,7 +6,7 @@ use Rattle.device.proofs.duty.overridden.Statement.{statement}
 use Rattle.device.proofs.duty.overridden.Tie as tie
 
 override-of-requires : tie.Need-override-of-requires
-override-of-requires c κs = search needs
+override-of-requires c κs = tt
 
 enum-told : tie.Need-enum-told
 enum-told c = search needs

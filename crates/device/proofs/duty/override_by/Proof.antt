@@ -1,6 +1,5 @@
 -- `duty::override_by` meets its contract. Assumes nothing.
 use Rattle.rules.specs.Duty.{overrideBy}
-use borrow.Author.Needs.{needs}
 use Rattle.device.proofs.duty.override_by.Statement.{statement}
 use Rattle.device.proofs.duty.override_by.Tie as tie
 
@@ -21,7 +20,7 @@ unfolding overrideBy
 returns-4 c = simp (c .before .before .before .before .if1 .left, c .before .before .if2 .left, c .before .if3 .left, c .if4 .taken)
 
 failed-fan-requires : tie.Need-failed-fan-requires
-failed-fan-requires c κs = search needs
+failed-fan-requires c κs = tt
 
 returns-5 : tie.Need-returns-5
 unfolding overrideBy

@@ -5,7 +5,7 @@ use Rattle.device.proofs.fresh.as_at_start.Statement.{statement}
 use Rattle.device.proofs.fresh.as_at_start.Tie as tie
 
 start-channel-requires : tie.Need-start-channel-requires
-start-channel-requires c κs = search needs
+start-channel-requires c κs = tt
 
 mul-t7 : tie.Need-mul-t7
 mul-t7 c = search needs

@@ -1,26 +1,25 @@
 -- `valid::valid` meets its contract. Assumes nothing.
 use Rattle.rules.specs.Valid.{validOf}
-use borrow.Author.Needs.{needs}
 use Rattle.device.proofs.valid.valid.Statement.{statement}
 use Rattle.device.proofs.valid.valid.Tie as tie
 
 valid-registers-requires : tie.Need-valid-registers-requires
-valid-registers-requires c κs = search needs
+valid-registers-requires c κs = tt
 
 valid-start-requires : tie.Need-valid-start-requires
-valid-start-requires c κs = search needs
+valid-start-requires c κs = tt
 
 watchdog-code-requires : tie.Need-watchdog-code-requires
-watchdog-code-requires c κs = search needs
+watchdog-code-requires c κs = tt
 
 valid-timer-requires : tie.Need-valid-timer-requires
-valid-timer-requires c κs = search needs
+valid-timer-requires c κs = tt
 
 standby-requires : tie.Need-standby-requires
-standby-requires c κs = search needs
+standby-requires c κs = tt
 
 valid-channels-requires : tie.Need-valid-channels-requires
-valid-channels-requires c κs = search needs
+valid-channels-requires c κs = tt
 
 returns : tie.Need-returns
 unfolding validOf

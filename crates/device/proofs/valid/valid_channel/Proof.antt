@@ -1,20 +1,19 @@
 -- `valid::valid_channel` meets its contract. Assumes nothing.
 use Rattle.rules.specs.Valid.{validChannel}
-use borrow.Author.Needs.{needs}
 use Rattle.device.proofs.valid.valid_channel.Statement.{statement}
 use Rattle.device.proofs.valid.valid_channel.Tie as tie
 
 monitor-only-requires : tie.Need-monitor-only-requires
-monitor-only-requires c κs = search needs
+monitor-only-requires c κs = tt
 
 valid-settings-requires : tie.Need-valid-settings-requires
-valid-settings-requires c κs = search needs
+valid-settings-requires c κs = tt
 
 valid-results-requires : tie.Need-valid-results-requires
-valid-results-requires c κs = search needs
+valid-results-requires c κs = tt
 
 valid-motion-requires : tie.Need-valid-motion-requires
-valid-motion-requires c κs = search needs
+valid-motion-requires c κs = tt
 
 returns : tie.Need-returns
 unfolding validChannel

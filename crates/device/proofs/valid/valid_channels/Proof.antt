@@ -33,7 +33,7 @@ array-copy-out-valid-channel : tie.Need-array-copy-out-valid-channel Inv-loop μ
 array-copy-out-valid-channel c = search needs
 
 valid-channel-requires : tie.Need-valid-channel-requires Inv-loop μ-loop
-valid-channel-requires c κs = search needs
+valid-channel-requires c κs = tt
 
 add-i : tie.Need-add-i Inv-loop μ-loop
 add-i c = search needs

@@ -1,20 +1,19 @@
 -- `valid::valid_registers` meets its contract. Assumes nothing.
 use Rattle.rules.specs.Valid.{validRegisters}
-use borrow.Author.Needs.{needs}
 use Rattle.device.proofs.valid.valid_registers.Statement.{statement}
 use Rattle.device.proofs.valid.valid_registers.Tie as tie
 
 control-kept-requires : tie.Need-control-kept-requires
-control-kept-requires c κs = search needs
+control-kept-requires c κs = tt
 
 mask-kept-requires : tie.Need-mask-kept-requires
-mask-kept-requires c κs = search needs
+mask-kept-requires c κs = tt
 
 mask-kept-requires-2 : tie.Need-mask-kept-requires-2
-mask-kept-requires-2 c κs = search needs
+mask-kept-requires-2 c κs = tt
 
 options-kept-requires : tie.Need-options-kept-requires
-options-kept-requires c κs = search needs
+options-kept-requires c κs = tt
 
 returns : tie.Need-returns
 unfolding validRegisters

@@ -1,13 +1,12 @@
 -- `valid::valid_settings` meets its contract. Assumes nothing.
-use borrow.Author.Needs.{needs}
 use Rattle.device.proofs.valid.valid_settings.Statement.{statement}
 use Rattle.device.proofs.valid.valid_settings.Tie as tie
 
 config-refused-requires : tie.Need-config-refused-requires
-config-refused-requires c κs = search needs
+config-refused-requires c κs = tt
 
 dynamics-kept-requires : tie.Need-dynamics-kept-requires
-dynamics-kept-requires c κs = search needs
+dynamics-kept-requires c κs = tt
 
 returns : tie.Need-returns
 returns c = simp (c .before .before .before .before .config-refused .ensures, c .before .before .before .dynamics-kept .ensures)

@@ -1,7 +1,6 @@
 -- `valid::valid_timer` meets its contract. Assumes nothing.
 use Rattle.rules.specs.Valid.{validTimer}
 use borrow.Author.Tests.{eq-eqb, ne-eqb}
-use borrow.Author.Needs.{needs}
 use Rattle.device.proofs.valid.valid_timer.Statement.{statement}
 use Rattle.device.proofs.valid.valid_timer.Tie as tie
 
@@ -10,7 +9,7 @@ unfolding validTimer
 returns c = simp (eq-eqb _ 0 (c .before .before .if1 .taken))
 
 watchdog-limit-requires : tie.Need-watchdog-limit-requires
-watchdog-limit-requires c κs = search needs
+watchdog-limit-requires c κs = tt
 
 returns-2 : tie.Need-returns-2
 unfolding validTimer

@@ -6,7 +6,7 @@ use Rattle.registers.proofs.map.place_at.Statement.{statement}
 use Rattle.registers.proofs.map.place_at.Tie as tie
 
 setting-at-requires : tie.Need-setting-at-requires
-setting-at-requires c κs = search needs
+setting-at-requires c κs = tt
 
 returns : tie.Need-returns
 unfolding placeAt

@@ -12,25 +12,25 @@ abbrev μ-loop : tie.MeasureT-loop
 μ-loop input output block₀ line₀ out₀ session₀ turns₀ block line out session turns = turns
 
 large-buffer-requires : tie.Need-large-buffer-requires Inv-loop μ-loop
-large-buffer-requires c κs = search needs
+large-buffer-requires c κs = tt
 
 slice-aggregate-block : tie.Need-slice-aggregate-block Inv-loop μ-loop
 slice-aggregate-block c = search needs
 
 line-buffer-requires : tie.Need-line-buffer-requires Inv-loop μ-loop
-line-buffer-requires c κs = search needs
+line-buffer-requires c κs = tt
 
 slice-aggregate-line : tie.Need-slice-aggregate-line Inv-loop μ-loop
 slice-aggregate-line c = search needs
 
 large-buffer-requires-2 : tie.Need-large-buffer-requires-2 Inv-loop μ-loop
-large-buffer-requires-2 c κs = search needs
+large-buffer-requires-2 c κs = tt
 
 slice-aggregate-out : tie.Need-slice-aggregate-out Inv-loop μ-loop
 slice-aggregate-out c = search needs
 
 begin-requires : tie.Need-begin-requires Inv-loop μ-loop
-begin-requires c κs = search needs
+begin-requires c κs = tt
 
 loop-holds : tie.Need-loop-holds Inv-loop μ-loop
 loop-holds c =
@@ -41,7 +41,7 @@ loop-holds c =
     }
 
 read-block-requires : tie.Need-read-block-requires Inv-loop μ-loop
-read-block-requires c κs = search needs
+read-block-requires c κs = tt
 
 slice-reshare-prefix-take-block : tie.Need-slice-reshare-prefix-take-block Inv-loop μ-loop
 slice-reshare-prefix-take-block c = search needs

@@ -12,13 +12,13 @@ slice-aggregate-end : tie.Need-slice-aggregate-end
 slice-aggregate-end c = sym (length-take-le _ _ (c .before .before .before .pre))
 
 end-requires : tie.Need-end-requires
-end-requires c κs = search needs
+end-requires c κs = tt
 
 above-requires : tie.Need-above-requires
-above-requires c κs = search needs
+above-requires c κs = tt
 
 above-requires-2 : tie.Need-above-requires-2
-above-requires-2 c κs = search needs
+above-requires-2 c κs = tt
 
 slice-aggregate-answer-line : tie.Need-slice-aggregate-answer-line
 slice-aggregate-answer-line c =
@@ -28,7 +28,7 @@ slice-aggregate-answer-line c =
     sym (length-take-le _ _ (omega (arith, start .pre, end .end .ensures, counted-within kept, length-take (start .args .gathered .kept) (start .args .line .now))))
 
 answer-line-requires : tie.Need-answer-line-requires
-answer-line-requires c κs = search needs
+answer-line-requires c κs = tt
 
 same-length : tie.Need-same-length
 same-length c = search needs

@@ -7,10 +7,10 @@ use Rattle.terminal.proofs.lines.answer_line.Statement.{statement}
 use Rattle.terminal.proofs.lines.answer_line.Tie as tie
 
 is-skipped-requires : tie.Need-is-skipped-requires
-is-skipped-requires c κs = search needs
+is-skipped-requires c κs = tt
 
 replied-requires : tie.Need-replied-requires
-replied-requires c κs = search needs
+replied-requires c κs = tt
 
 returns : tie.Need-returns
 returns c =
@@ -23,7 +23,7 @@ returns c =
     }
 
 refuse-requires : tie.Need-refuse-requires
-refuse-requires c κs = search needs
+refuse-requires c κs = tt
 
 same-length : tie.Need-same-length
 same-length c = search needs

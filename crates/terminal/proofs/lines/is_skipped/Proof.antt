@@ -19,7 +19,7 @@ first-byte line begin end h =
     rw (getD-take (end - begin) (drop begin line) 0 0 some, getD-drop begin line 0 0, add-zero begin)
 
 next-word-requires : tie.Need-next-word-requires
-next-word-requires c κs = search needs
+next-word-requires c κs = tt
 
 enum-told : tie.Need-enum-told
 enum-told c = search needs

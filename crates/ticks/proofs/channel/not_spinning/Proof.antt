@@ -14,13 +14,13 @@ unfolding channelTicks
 returns c = ap (λ n. channelTicks false n (c .before .args .clock) (c .before .args .channel)) (sym (c .if1 .taken))
 
 spin-up-due-requires : tie.Need-spin-up-due-requires
-spin-up-due-requires c κs = search needs
+spin-up-due-requires c κs = tt
 
 spin-code-requires : tie.Need-spin-code-requires
-spin-code-requires c κs = search needs
+spin-code-requires c κs = tt
 
 spin-ticks-requires : tie.Need-spin-ticks-requires
-spin-ticks-requires c κs = search needs
+spin-ticks-requires c κs = tt
 
 sub-left : tie.Need-sub-left
 sub-left c = search needs

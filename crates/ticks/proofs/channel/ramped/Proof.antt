@@ -10,10 +10,10 @@ use Rattle.ticks.proofs.channel.ramped.Statement.{statement}
 use Rattle.ticks.proofs.channel.ramped.Tie as tie
 
 wanted-requires : tie.Need-wanted-requires
-wanted-requires c κs = search needs
+wanted-requires c κs = tt
 
 rate-code-requires : tie.Need-rate-code-requires
-rate-code-requires c κs = search needs
+rate-code-requires c κs = tt
 
 returns : tie.Need-returns
 unfolding channelTicks
@@ -29,7 +29,7 @@ returns-2 c =
     (rw (c .before .before .rate-code .ensures) at (c .before .if1 .taken))))
 
 period-of-requires : tie.Need-period-of-requires
-period-of-requires c κs = search needs
+period-of-requires c κs = tt
 
 cast-period : tie.Need-cast-period
 cast-period c = search needs
@@ -47,7 +47,7 @@ sub-steps : tie.Need-sub-steps
 sub-steps c = rw (c .period-of .ensures) (multiples-from _ (period-pos (c .before .before .before .before .args .channel)) _ _)
 
 approach-requires : tie.Need-approach-requires
-approach-requires c κs = search needs
+approach-requires c κs = tt
 
 returns-3 : tie.Need-returns-3
 returns-3 c =

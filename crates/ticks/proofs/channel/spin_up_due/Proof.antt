@@ -1,14 +1,13 @@
 -- `channel::spin_up_due` meets its contract. Assumes nothing.
 use Rattle.rules.specs.Tick.{spinUpDue}
-use borrow.Author.Needs.{needs}
 use Rattle.ticks.proofs.channel.spin_up_due.Statement.{statement}
 use Rattle.ticks.proofs.channel.spin_up_due.Tie as tie
 
 wanted-requires : tie.Need-wanted-requires
-wanted-requires c κs = search needs
+wanted-requires c κs = tt
 
 spin-code-requires : tie.Need-spin-code-requires
-spin-code-requires c κs = search needs
+spin-code-requires c κs = tt
 
 returns : tie.Need-returns
 unfolding spinUpDue
