@@ -9,6 +9,7 @@ ghost use Rattle.rules.specs.Read.{controlByte};
 ghost use Rattle.rules.specs.Duty.{faultByte};
 ghost use Rattle.image.specs.Image.{boxTable, channelTable, Numbers, numberCount, channelsNumbers, channelsLimits, limits, limitAt, Within, stateNumbers, number, byteOf, wordOf, longOf, channelFrom, channelAt, registersFrom, timerFrom, startFrom, stateFrom};
 use device::duty::fault_byte;
+use registers::kept::control_byte;
 use rules::Channel;
 use rules::Registers;
 use rules::StartValues;
@@ -95,10 +96,10 @@ fn of_long(n: u32) -> u32
 }
 
 // 00h as it reads.
-fn control_byte(control: u8, status: bool) -> u32
+fn control(control: u8, status: bool) -> u32
     ensures { λ r. ⌜ (r ≡ controlByte control status) × (r ≤ 255) ⌝ }
 {
-    control as u32 / 2 % 128 * 2 + flag(status)
+    control_byte(control, status) as u32
 }
 
 // 11h as it reads.
@@ -118,7 +119,7 @@ fn box_numbers(state: State) -> [u32; BOX_NUMBERS]
     [
         of_long(timer.clock),
         flag(state.pin),
-        control_byte(registers.control, timer.status),
+        control(registers.control, timer.status),
         of_byte(registers.frequency),
         faults(channels),
         of_byte(registers.mask2),

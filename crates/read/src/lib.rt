@@ -3,12 +3,13 @@ ghost use mathlib.Core.Path.{_≡_};
 ghost use Prim.Native.Nat.{_<_};
 ghost use Rattle.rules.specs.Map.{isCarried, statusIndex, indexOf};
 ghost use Rattle.rules.specs.Calls.{readAnswer};
-ghost use Rattle.rules.specs.Read.{controlByte, boxByte, channelByte, statusByte, placeByte, afterRead, readOf};
+ghost use Rattle.rules.specs.Read.{boxByte, channelByte, statusByte, placeByte, afterRead, readOf};
 use device::duty::conditions;
 use device::duty::fault_byte;
 use device::duty::output_duty;
 use device::valid::valid;
 use registers::access::accessed;
+use registers::kept::control_byte;
 use registers::map::place_at;
 use rules::ACCEPTED;
 use rules::BoxRegister;
@@ -24,15 +25,6 @@ use words::count_word;
 use words::duty_word;
 use words::output_word;
 use words::word_byte;
-
-fn control_byte(control: u8, status: bool) -> u8
-    ensures { λ r. ⌜ r ≡ controlByte control status ⌝ }
-{
-    if status {
-        return control / 2 % 128 * 2 + 1;
-    }
-    control / 2 % 128 * 2
-}
 
 fn box_byte(state: State, register: BoxRegister) -> u8
     ensures { λ r. ⌜ r ≡ boxByte state register ⌝ }

@@ -1,5 +1,6 @@
-// What a register keeps of a written byte.
+// What a register keeps of a written byte, and 00h as it reads.
 ghost use mathlib.Core.Path.{_≡_};
+ghost use Rattle.rules.specs.Read.{controlByte};
 ghost use Rattle.rules.specs.Registers.{controlKept, dynamicsKept, maskKept, optionsKept, configRefused};
 
 // 00h, without its status bit.
@@ -7,6 +8,16 @@ pub fn control_kept(byte: u8) -> u8
     ensures { λ r. ⌜ r ≡ controlKept byte ⌝ }
 {
     byte / 128 % 2 * 128 + byte / 32 % 2 * 32 + byte / 2 % 8 * 2
+}
+
+// 00h as it reads: what is kept of it, and the status bit.
+pub fn control_byte(control: u8, status: bool) -> u8
+    ensures { λ r. ⌜ r ≡ controlByte control status ⌝ }
+{
+    if status {
+        return control / 2 % 128 * 2 + 1;
+    }
+    control / 2 % 128 * 2
 }
 
 // 08h to 0Dh.

@@ -10,8 +10,8 @@ of-long-requires c κs = tt
 flag-requires : tie.Need-flag-requires
 flag-requires c κs = tt
 
-control-byte-requires : tie.Need-control-byte-requires
-control-byte-requires c κs = tt
+control-requires : tie.Need-control-requires
+control-requires c κs = tt
 
 of-byte-requires : tie.Need-of-byte-requires
 of-byte-requires c κs = tt
@@ -56,7 +56,7 @@ box-numbers-spec =
     (tie.spec
     of-long-requires
     flag-requires
-    control-byte-requires
+    control-requires
     of-byte-requires
     faults-requires
     of-byte-requires-2

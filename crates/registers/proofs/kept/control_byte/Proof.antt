@@ -1,8 +1,8 @@
--- `read::control_byte` meets its contract. Assumes nothing.
+-- `kept::control_byte` meets its contract. Assumes nothing.
 use native.Mathlib.Nat.{add-zero}
 use borrow.Author.Needs.{needs}
-use Rattle.read.proofs.control_byte.Statement.{statement}
-use Rattle.read.proofs.control_byte.Tie as tie
+use Rattle.registers.proofs.kept.control_byte.Statement.{statement}
+use Rattle.registers.proofs.kept.control_byte.Tie as tie
 
 mul-result : tie.Need-mul-result
 mul-result c = search needs
