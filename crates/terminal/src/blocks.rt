@@ -4,7 +4,7 @@ ghost use Prim.Native.Nat.{_+_, _≤_};
 ghost use lib.ListN.{length};
 ghost use Rattle.io.specs.Counts.{Counts};
 ghost use Rattle.dispatch.specs.Answers.{longestAnswer};
-ghost use Rattle.terminal.specs.Sessions.{Keeps};
+ghost use Rattle.terminal.specs.Between.{InBuffers};
 use crate::lines::Gathered;
 use crate::lines::answer;
 use crate::lines::gather;
@@ -15,7 +15,7 @@ const LONGEST_ANSWER: usize = 4096;
 
 // What goes from one block to the next: what is in hand, how many lines have ended, the line that has not, and how much of
 // the output is not yet written.
-struct Session {
+struct Progress {
     hand: Hand,
     lines: u32,
     kept: usize,
@@ -24,12 +24,12 @@ struct Session {
 }
 
 // "Before the first `start` or `load` the state in hand is the one that a refused start gives": no watchdog code is 4.
-fn begin() -> Session
+fn begin() -> Progress
     ensures { λ r. ⌜ (r .kept ≡ 0) × (r .at ≡ 0) ⌝ }
 {
     let refused = start::start(4, 0, 0, 0);
     let state = refused.state;
-    Session {
+    Progress {
         hand: Hand { state: state },
         lines: 0,
         kept: 0,
@@ -66,19 +66,19 @@ fn make_room(output: i32, out: &[u8], at: usize) -> usize
 }
 
 // Answers a line that has ended.
-fn end_line(output: i32, line: &[u8], out: &mut [u8], session: Session) -> Session
-    requires { ⌜ Keeps session (now line) (now out) ⌝ }
-    ensures { λ r. ⌜ Keeps r (now (line .entry)) (now (out .exit)) ⌝ }
+fn end_line(output: i32, line: &[u8], out: &mut [u8], progress: Progress) -> Progress
+    requires { ⌜ InBuffers progress (now line) (now out) ⌝ }
+    ensures { λ r. ⌜ InBuffers r (now (line .entry)) (now (out .exit)) ⌝ }
 {
-    let lines = next_line(session.lines);
+    let lines = next_line(progress.lines);
     let gathered = Gathered {
-        kept: session.kept,
-        total: session.total,
+        kept: progress.kept,
+        total: progress.total,
     };
-    let at = make_room(output, out, session.at);
-    let reply = answer(line, gathered, lines, session.hand, out, at);
+    let at = make_room(output, out, progress.at);
+    let reply = answer(line, gathered, lines, progress.hand, out, at);
     let hand = reply.hand;
-    Session {
+    Progress {
         hand: hand,
         lines: lines,
         kept: 0,
@@ -88,14 +88,20 @@ fn end_line(output: i32, line: &[u8], out: &mut [u8], session: Session) -> Sessi
 }
 
 // Answers the line if it has ended.
-fn end_line_if(ended: bool, output: i32, line: &[u8], out: &mut [u8], session: Session) -> Session
-    requires { ⌜ Keeps session (now line) (now out) ⌝ }
-    ensures { λ r. ⌜ Keeps r (now (line .entry)) (now (out .exit)) ⌝ }
+fn end_line_if(
+    ended: bool,
+    output: i32,
+    line: &[u8],
+    out: &mut [u8],
+    progress: Progress,
+) -> Progress
+    requires { ⌜ InBuffers progress (now line) (now out) ⌝ }
+    ensures { λ r. ⌜ InBuffers r (now (line .entry)) (now (out .exit)) ⌝ }
 {
     if ended {
-        return end_line(output, line, out, session);
+        return end_line(output, line, out, progress);
     }
-    session
+    progress
 }
 
 // The index of the next line feed, or the length where there is none.
@@ -113,16 +119,16 @@ fn feed_after(block: &[u8], from: usize) -> usize
     i
 }
 
-fn add(bytes: &[u8], line: &mut [u8], session: Session) -> Session
-    requires { ⌜ session .kept ≤ length (now line) ⌝ }
-    ensures { λ r. ⌜ (r .kept ≤ length (now (line .entry))) × (r .at ≡ session .at) ⌝ }
+fn add(bytes: &[u8], line: &mut [u8], progress: Progress) -> Progress
+    requires { ⌜ progress .kept ≤ length (now line) ⌝ }
+    ensures { λ r. ⌜ (r .kept ≤ length (now (line .entry))) × (r .at ≡ progress .at) ⌝ }
 {
     let gathered = Gathered {
-        kept: session.kept,
-        total: session.total,
+        kept: progress.kept,
+        total: progress.total,
     };
     let more = gather(bytes, line, gathered);
-    let mut next = session;
+    let mut next = progress;
     next.kept = more.kept;
     next.total = more.total;
     next
@@ -134,12 +140,12 @@ fn take_block(
     block: &[u8],
     line: &mut [u8],
     out: &mut [u8],
-    session: Session,
-) -> Session
-    requires { ⌜ Keeps session (now line) (now out) ⌝ }
-    ensures { λ r. ⌜ Keeps r (now (line .exit)) (now (out .exit)) ⌝ }
+    progress: Progress,
+) -> Progress
+    requires { ⌜ InBuffers progress (now line) (now out) ⌝ }
+    ensures { λ r. ⌜ InBuffers r (now (line .exit)) (now (out .exit)) ⌝ }
 {
-    let mut next = session;
+    let mut next = progress;
     let mut from = 0;
     while from < block.len() {
         let to = feed_after(block, from);
@@ -151,10 +157,10 @@ fn take_block(
 }
 
 // Answers a last line without a line feed.
-fn finish(output: i32, line: &[u8], out: &mut [u8], session: Session)
-    requires { ⌜ Keeps session (now line) (now out) ⌝ }
+fn finish(output: i32, line: &[u8], out: &mut [u8], progress: Progress)
+    requires { ⌜ InBuffers progress (now line) (now out) ⌝ }
 {
-    let last = end_line_if(0 < session.total, output, line, out, session);
+    let last = end_line_if(0 < progress.total, output, line, out, progress);
     flush(output, out, last.at);
 }
 
@@ -182,7 +188,7 @@ pub fn run(input: i32, output: i32) {
     let line: &mut [u8] = &mut line_space;
     let mut out_space = io::large_buffer();
     let out: &mut [u8] = &mut out_space;
-    let mut session = begin();
+    let mut progress = begin();
     // A proved loop has to end, and nothing says that the input does: this counts down from more reads than any run makes.
     let mut turns = 18446744073709551615u64;
     while 0 < turns {
@@ -190,10 +196,10 @@ pub fn run(input: i32, output: i32) {
         if n == 0 {
             break;
         }
-        session = take_block(output, &block[..n], line, out, session);
-        let at = flush(output, out, session.at);
-        session.at = at;
+        progress = take_block(output, &block[..n], line, out, progress);
+        let at = flush(output, out, progress.at);
+        progress.at = at;
         turns -= 1;
     }
-    finish(output, line, out, session);
+    finish(output, line, out, progress);
 }

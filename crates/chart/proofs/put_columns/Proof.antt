@@ -34,8 +34,9 @@ loop-less c = omega arith
 
 loop-again : tie.Need-loop-again Inv-loop μ-loop
 loop-again c =
-    let loop = c .before .before .before .before .before .before .before .loop in
-    let args = c .before .before .before .before .before .before .before .before .before .args in
+    let turn = c .before .before .before .before .before .before .before in
+    let loop = turn .loop in
+    let args = turn .before .before .args in
     let drawn = rw (c .before .before .before .before .duty-after .ensures, c .before .before .before .before .before .ticks-at .ensures) at (c .before .before .put-block .ensures) in
     (part-put _ _ (rw (column-next (args .state) (args .i) (args .ticks) (loop .column) (omega arith)) at (loop .inv .0)) drawn, omega arith)
 

@@ -1,15 +1,15 @@
 -- `blocks::run` is safe and ends. Assumes nothing.
 use native.Mathlib.Omega.{arith}
 use borrow.Author.Needs.{needs}
-use Rattle.terminal.specs.Sessions.{Keeps}
+use Rattle.terminal.specs.Between.{InBuffers}
 use Rattle.terminal.proofs.blocks.run.Statement.{statement}
 use Rattle.terminal.proofs.blocks.run.Tie as tie
 
 abbrev Inv-loop : tie.InvT-loop
-Inv-loop input output block₀ line₀ out₀ session₀ turns₀ block line out session turns = Keeps session line out
+Inv-loop input output block₀ line₀ out₀ progress₀ turns₀ block line out progress turns = InBuffers progress line out
 
 abbrev μ-loop : tie.MeasureT-loop
-μ-loop input output block₀ line₀ out₀ session₀ turns₀ block line out session turns = turns
+μ-loop input output block₀ line₀ out₀ progress₀ turns₀ block line out progress turns = turns
 
 large-buffer-requires : tie.Need-large-buffer-requires Inv-loop μ-loop
 large-buffer-requires c κs = tt

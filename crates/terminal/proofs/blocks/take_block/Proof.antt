@@ -3,13 +3,13 @@ use Prim.Native.Nat.{_-_}
 use mathlib.Core.Path.{_≡_, refl, _∙_}
 use native.Mathlib.Omega.{arith}
 use lib.ListN.{length}
-use Rattle.terminal.specs.Sessions.{Keeps}
+use Rattle.terminal.specs.Between.{InBuffers}
 use Rattle.terminal.proofs.blocks.take_block.Statement.{statement}
 use Rattle.terminal.proofs.blocks.take_block.Tie as tie
 
 abbrev Inv-loop : tie.InvT-loop
 Inv-loop output block line₀ out₀ next₀ from₀ line out next from =
-    (length line ≡ length line₀) × (length out ≡ length out₀) × Keeps next line out
+    (length line ≡ length line₀) × (length out ≡ length out₀) × InBuffers next line out
 
 abbrev μ-loop : tie.MeasureT-loop
 μ-loop output block line₀ out₀ next₀ from₀ line out next from = length block - from
