@@ -1,0 +1,71 @@
+-- `order_of` meets its contract: each arm is the line of `orderOf` for its call. Assumes nothing.
+use mathlib.Core.Path.{_≡_, refl}
+use mathlib.Core.Bool.{Bool, true, false}
+use mir.Val.{boolByte}
+use borrow.Author.Needs.{needs}
+use Rattle.rules.specs.Basics.{flag}
+use Rattle.strings.specs.Encode.{orderOf}
+use Rattle.encode.proofs.order_of.Statement.{statement}
+use Rattle.encode.proofs.order_of.Tie as tie
+
+level : (high : Bool) → boolByte high ≡ flag high
+level true = refl
+level false = refl
+
+enum-known-call : tie.Need-enum-known-call
+enum-known-call c = search needs
+
+cast-t10 : tie.Need-cast-t10
+cast-t10 c = search needs
+
+enum-known-call-2 : tie.Need-enum-known-call-2
+enum-known-call-2 c = search needs
+
+enum-known-call-3 : tie.Need-enum-known-call-3
+enum-known-call-3 c = search needs
+
+enum-known-call-4 : tie.Need-enum-known-call-4
+enum-known-call-4 c = search needs
+
+enum-known-call-5 : tie.Need-enum-known-call-5
+enum-known-call-5 c = search needs
+
+cast-t11 : tie.Need-cast-t11
+cast-t11 c = search needs
+
+returns : tie.Need-returns
+unfolding orderOf
+returns c = rw (c .before .call .given .1)
+
+returns-2 : tie.Need-returns-2
+unfolding orderOf
+returns-2 c = rw (c .before .call2 .given .1)
+
+returns-3 : tie.Need-returns-3
+unfolding orderOf
+returns-3 c = rw (c .before .call3 .given .1)
+
+returns-4 : tie.Need-returns-4
+unfolding orderOf
+returns-4 c = rw (c .before .call4 .given .1)
+
+returns-5 : tie.Need-returns-5
+unfolding orderOf
+returns-5 c = rw (c .before .call5 .given .1, level (c .before .call5 .given .0 .0))
+
+pub order-of-spec : {M : Type 1} → statement M
+order-of-spec =
+    tie.close
+    (tie.spec
+    enum-known-call
+    cast-t10
+    enum-known-call-2
+    enum-known-call-3
+    enum-known-call-4
+    enum-known-call-5
+    cast-t11
+    returns
+    returns-2
+    returns-3
+    returns-4
+    returns-5)
