@@ -8,14 +8,8 @@ use crate::random::Random;
 
 pub fn address(random: &mut Random) -> u32 {
     let index = random.below(CHANNELS as u32);
-    let any = random.any();
     let any_carried = carried_address(random);
-    // The lower byte or the lower half alone would be a carried register.
-    let far = random.pick(&[0x100, 0x300, 0x8000, 0x1_0000, 0x8000_0000]) + any_carried;
-    let neighbour = random.pick(&[
-        0x0E, 0x0F, 0x15, 0x16, 0x17, 0x3C, 0x3D, 0x3F, 0x4C, 0x4F, 0x5C, 0x5F, 0x66, 0x67, 0xFF,
-        0x100, 0x101,
-    ]);
+    let no_register = no_register(random);
     random.weighted(&[
         (14, any_carried),
         (6, 0x00),
@@ -29,10 +23,26 @@ pub fn address(random: &mut Random) -> u32 {
         (4, 0x40 + 2 * index),
         (4, 0x41 + 2 * index),
         (3, 0x50 + 2 * index),
-        (3, neighbour),
-        (2, far),
-        (1, any),
+        (6, no_register),
     ])
+}
+
+/// An address that is not carried: beside a register, or far from all of them.
+pub fn no_register(random: &mut Random) -> u32 {
+    // The lower byte or the lower half alone would be a carried register.
+    let far = random.pick(&[0x100, 0x300, 0x8000, 0x1_0000, 0x8000_0000]) + carried_address(random);
+    let neighbour = random.pick(&[
+        0x0E, 0x0F, 0x15, 0x16, 0x17, 0x3C, 0x3D, 0x3F, 0x4C, 0x4F, 0x5C, 0x5F, 0x66, 0x67, 0xFF,
+        0x100, 0x101,
+    ]);
+    let any = random.any().max(0x100);
+    random.weighted(&[(3, neighbour), (2, far), (1, any)])
+}
+
+/// A number that no channel has.
+pub fn no_channel(random: &mut Random) -> u32 {
+    let any = random.any().max(7);
+    random.pick(&[0, 7, 8, 255, 256, 257, 65_537, u32::MAX, any])
 }
 
 fn carried_address(random: &mut Random) -> u32 {
@@ -73,12 +83,16 @@ fn configuration_byte(random: &mut Random) -> u8 {
     let code = random.below(4) as u8;
     let bits = random.pick(&[0x00, 0x08, 0x08, 0x0A]);
     let accepted = code << 5 | bits;
-    let refused = random.pick(&[0x80, 0x04, 0x01, 0x85, 0xFF]);
+    let refused = refused_configuration(random);
     random.weighted(&[
         (6, accepted),
         (1, accepted | MONITOR_ONLY),
         (2, accepted | refused),
     ])
+}
+
+pub fn refused_configuration(random: &mut Random) -> u8 {
+    random.pick(&[0x80, 0x04, 0x01, 0x85, 0xFF])
 }
 
 /// A value for `start`: in range, or wrong in such a way that its low half may be in range.
@@ -109,6 +123,13 @@ pub fn count_about(random: &mut Random, channel: &Channel) -> u32 {
         (1, any % 2048),
         (1, any),
     ])
+}
+
+/// At the ends of what one byte to five bytes of an order string can hold.
+pub fn number_of_some_length(random: &mut Random) -> u32 {
+    let lengths = [1 << 7, 1 << 14, 1 << 21, 1 << 28];
+    let longer = random.pick(&lengths);
+    random.pick(&[0, 1, longer - 1, longer, longer + 1, u32::MAX - 1, u32::MAX])
 }
 
 /// The number, or one beside it. Below 0 it is the longest span.

@@ -2,8 +2,10 @@
 //! expects for it.
 
 use crate::model::{self, Billionths, Channel, State, ACCEPTED};
+use crate::orders::{self, Record, KINDS};
+use crate::text::{byte_pairs, Word};
 
-#[derive(Clone, Copy, Debug)]
+#[derive(Clone, Debug)]
 pub enum Call {
     Start {
         watchdog: u32,
@@ -37,10 +39,17 @@ pub enum Call {
     },
     Dump,
     Load(State),
+    Run {
+        string: Vec<u8>,
+        allowance: u32,
+        room: u32,
+    },
+    /// Of a record of one of the kinds, its numbers in range or not.
+    Encode(Record),
 }
 
 impl Call {
-    pub fn word(&self) -> &'static str {
+    fn name(&self) -> &'static str {
         match self {
             Call::Start { .. } => "start",
             Call::Write { .. } => "write",
@@ -53,11 +62,33 @@ impl Call {
             Call::Speed { .. } => "speed",
             Call::Dump => "dump",
             Call::Load(_) => "load",
+            Call::Run { .. } => "run",
+            Call::Encode(_) => "encode",
         }
     }
 
-    /// The numbers that follow the word on its line.
-    pub fn numbers(&self) -> Vec<u32> {
+    /// The words of its line.
+    pub fn words(&self) -> Vec<Word<'_>> {
+        let mut words = vec![Word::Name(self.name())];
+        match self {
+            Call::Run { string, .. } => words.push(Word::Bytes(string)),
+            Call::Encode(record) => words.push(Word::Name(KINDS[record[0] as usize])),
+            _ => {}
+        }
+        words.extend(self.numbers().into_iter().map(Word::Number));
+        words
+    }
+
+    /// The record that asks for it, if it is a call that has a kind.
+    pub fn record(&self) -> Option<Record> {
+        let kind = KINDS.iter().position(|&name| name == self.name())?;
+        let mut record = vec![kind as u32];
+        record.extend(self.numbers());
+        Some(record)
+    }
+
+    /// The numbers on its line.
+    fn numbers(&self) -> Vec<u32> {
         match *self {
             Call::Start {
                 watchdog,
@@ -76,6 +107,10 @@ impl Call {
                 count,
             } => vec![range_code, pulses, count],
             Call::Load(state) => state_numbers(&state),
+            Call::Run {
+                allowance, room, ..
+            } => vec![allowance, room],
+            Call::Encode(ref record) => record[1..].to_vec(),
             Call::Cabin | Call::FanFail | Call::Dump => vec![],
         }
     }
@@ -116,6 +151,12 @@ impl Call {
                 *state = given;
                 (ACCEPTED, "ok".to_string())
             }
+            Call::Run {
+                ref string,
+                allowance,
+                room,
+            } => run_answer(state, string, allowance, room),
+            Call::Encode(ref record) => (ACCEPTED, byte_pairs(&orders::record_bytes(record))),
         }
     }
 }
@@ -144,6 +185,15 @@ fn fan_fail_answer(state: &State) -> (u32, String) {
     let (refusal, asserted, failed, lowest) = model::fan_fail(state);
     let asserted = u32::from(asserted);
     (refusal, format!("{refusal} {asserted} {failed} {lowest}"))
+}
+
+/// "The buffer has ROOM bytes (0 to 2,048), every one A5h before the call, and is printed whole".
+fn run_answer(state: &mut State, string: &[u8], allowance: u32, room: u32) -> (u32, String) {
+    let mut buffer = vec![0xA5; room as usize];
+    let run = orders::run(state, string, allowance, &mut buffer);
+    *state = run.state;
+    let counts = format!("{} {} {}", run.refusal, run.taken, run.written);
+    (run.refusal, format!("{counts} {}", byte_pairs(&buffer)))
 }
 
 fn decimal_words(numbers: &[u32]) -> String {
@@ -256,5 +306,49 @@ mod tests {
         };
         assert_eq!(answer(speed(2, 2, 1000), &mut state), "0 983");
         assert_eq!(answer(speed(2, 0, 1000), &mut state), "6 0");
+    }
+
+    #[test]
+    fn a_run_answers_with_its_counts_and_the_whole_buffer() {
+        let (_, mut state) = model::start(0, 0, 0, 0x77);
+        let run = |string: &[u8], allowance, room| Call::Run {
+            string: string.to_vec(),
+            allowance,
+            room,
+        };
+        assert_eq!(answer(run(&[], 9, 0), &mut state), "0 0 0 -");
+        assert_eq!(answer(run(&[1, 1], 9, 4), &mut state), "0 1 1 77a5a5a5");
+        assert_eq!(answer(run(&[1, 1], 9, 1), &mut state), "15 0 0 a5");
+        // The answer cannot be told from the rest of the buffer, but the count can.
+        let marked = run(&[0, 1, 0xA5, 0x01, 1, 1, 1, 5], 2, 8);
+        assert_eq!(answer(marked, &mut state), "0 2 1 a5a5a5a5a5a5a5a5");
+        assert_eq!(state.frequency, 0xA5);
+    }
+
+    #[test]
+    fn an_encoding_is_the_record_as_bytes() {
+        let mut state = State::default();
+        let encodings = [
+            (vec![0, 300, 256], "00ac028002"),
+            (vec![1, 0], "0100"),
+            (vec![2, u32::MAX], "02ffffffff0f"),
+            (vec![3, 6, 127], "03067f"),
+            (vec![4, 2], "0402"),
+        ];
+        for (record, bytes) in encodings {
+            assert_eq!(answer(Call::Encode(record), &mut state), bytes);
+        }
+        assert_eq!(state, State::default());
+    }
+
+    #[test]
+    fn calls_with_a_kind_have_a_record() {
+        let write = Call::Write {
+            address: 300,
+            byte: 9,
+        };
+        assert_eq!(write.record(), Some(vec![0, 300, 9]));
+        assert_eq!(Call::Pin { level: true }.record(), Some(vec![4, 1]));
+        assert_eq!(Call::Dump.record(), None);
     }
 }

@@ -4,10 +4,12 @@
 mod choices;
 mod console;
 mod model;
+mod orders;
 mod random;
 mod scenario;
 mod seen;
 mod states;
+mod strings;
 mod text;
 
 use std::env;

@@ -1,23 +1,31 @@
 //! Random scenarios: lines for the console and the answers that the model expects. A scenario is a
 //! row of short drills, each about one part of the paper, all on the one state in hand.
 
+use std::mem;
+
 use crate::choices;
 use crate::console::Call;
 use crate::model::{
-    queue_length, Channel, State, CHANNELS, FULL_DUTY, MONITOR_ONLY, TACHOMETER_ENABLED,
+    queue_length, Channel, State, ACCEPTED, CHANNELS, FULL_DUTY, MONITOR_ONLY, TACHOMETER_ENABLED,
 };
+use crate::orders::{self, Record};
 use crate::random::Random;
 use crate::seen::Seen;
 use crate::states::{
     flawed_state, random_count, random_duty, sound_state, unusual_sound_state, FLAWS,
 };
+use crate::strings;
 use crate::text::{call_line, skipped_line};
+
+type Drill = fn(&mut Scenario);
 
 pub struct Scenario {
     random: Random,
     state: State,
     /// The next of the flaws, which are taken in turn.
     next_flaw: usize,
+    /// While a string is packed, its records: calls become records then, and no lines.
+    packed: Option<Vec<Record>>,
     pub input: String,
     pub answers: String,
     pub seen: Seen,
@@ -30,6 +38,7 @@ pub fn scenario(seed: u64, calls: usize) -> Scenario {
         random: Random::new(seed),
         state: State::default(),
         next_flaw: (seed % FLAWS.len() as u64) as usize,
+        packed: None,
         input: format!("# Scenario of seed {seed}.\n"),
         answers: String::new(),
         seen: Seen::default(),
@@ -51,7 +60,25 @@ pub fn scenario(seed: u64, calls: usize) -> Scenario {
 // The drills
 impl Scenario {
     fn drill(&mut self) {
-        let drills: [(u32, fn(&mut Scenario)); 11] = [
+        let drills: [(u32, Drill); 7] = [
+            (98, Scenario::traffic_drill),
+            (14, Scenario::start_drill),
+            (24, Scenario::load_drill),
+            (30, Scenario::flaw_drill),
+            (8, Scenario::speed_drill),
+            (8, Scenario::encode_drill),
+            (200, Scenario::string_drill),
+        ];
+        let drill = self.random.weighted(&drills);
+        drill(self);
+        if self.random.chance(1, 2) {
+            self.make(Call::Dump);
+        }
+    }
+
+    /// One of the drills whose calls, but for queries and dumps, have a kind: they can be packed.
+    fn traffic_drill(&mut self) {
+        let drills: [(u32, Drill); 7] = [
             (18, Scenario::register_drill),
             (4, Scenario::sweep_drill),
             (16, Scenario::ramp_drill),
@@ -59,16 +86,9 @@ impl Scenario {
             (14, Scenario::watchdog_drill),
             (20, Scenario::tachometer_drill),
             (12, Scenario::override_drill),
-            (8, Scenario::start_drill),
-            (24, Scenario::load_drill),
-            (30, Scenario::flaw_drill),
-            (8, Scenario::speed_drill),
         ];
         let drill = self.random.weighted(&drills);
         drill(self);
-        if self.random.chance(1, 2) {
-            self.make(Call::Dump);
-        }
     }
 
     /// Bus traffic of every kind, with some ticks between.
@@ -277,9 +297,9 @@ impl Scenario {
         self.next_flaw = (self.next_flaw + 1) % FLAWS.len();
         let (mended, flawed) = flawed_state(&mut self.random, flaw);
         self.make(Call::Load(flawed));
-        let first = self.random.below(8);
-        for turn in first..first + self.random.between(3, 8) {
-            match turn % 8 {
+        let first = self.random.below(10);
+        for turn in first..first + self.random.between(3, 10) {
+            match turn % 10 {
                 0 => self.write_something(),
                 1 => self.read_something(),
                 2 => {
@@ -290,7 +310,8 @@ impl Scenario {
                 4 => self.flip_pin(),
                 5 => self.make(Call::Cabin),
                 6 => self.make(Call::FanFail),
-                _ => self.one_speed(),
+                7 => self.one_speed(),
+                _ => self.run_records_for(mended),
             }
         }
         self.make(Call::Dump);
@@ -310,6 +331,27 @@ impl Scenario {
         }
     }
 
+    /// Records as bytes, and some of them run.
+    fn encode_drill(&mut self) {
+        for _ in 0..self.random.between(2, 6) {
+            let record = strings::any_record(&mut self.random);
+            self.make(Call::Encode(record.clone()));
+            if self.random.chance(1, 3) {
+                self.run(orders::record_bytes(&record));
+            }
+        }
+    }
+
+    /// A row of runs, each on the state that the one before left.
+    fn string_drill(&mut self) {
+        for _ in 0..self.random.between(3, 8) {
+            self.run_records_for(self.state);
+            if self.random.chance(1, 2) {
+                self.make(Call::Dump);
+            }
+        }
+    }
+
     /// The whole state compared, and then a few calls of any kind on it.
     fn try_the_state(&mut self) {
         self.make(Call::Dump);
@@ -317,14 +359,85 @@ impl Scenario {
             self.make(Call::Cabin);
         }
         for _ in 0..self.random.between(3, 8) {
-            match self.random.below(8) {
-                0 => self.write_something(),
-                1 => self.read_something(),
-                2 => self.result_somewhere(),
-                3 => self.query(),
-                4 => self.flip_pin(),
-                _ => self.pass_ticks(),
+            if self.random.chance(1, 8) {
+                self.run_records_for(self.state);
+            } else {
+                self.any_call();
             }
+        }
+    }
+}
+
+// Strings
+impl Scenario {
+    /// Runs a string whose records suit a sound state: the state in hand, or one without its flaw.
+    fn run_records_for(&mut self, state: State) {
+        let records = self.records_for(state);
+        let string = strings::string_of(&mut self.random, &records);
+        self.run(string);
+    }
+
+    fn run(&mut self, string: Vec<u8>) {
+        let mut buffer = vec![0; string.len()];
+        let whole = orders::run(&self.state, &string, u32::MAX, &mut buffer);
+        let call = Call::Run {
+            allowance: strings::allowance(&mut self.random, whole.taken),
+            room: strings::room(&mut self.random, string.len(), whole.written),
+            string,
+        };
+        self.make(call);
+    }
+
+    /// The records of calls that are accepted one after the other from this state on.
+    fn records_for(&mut self, state: State) -> Vec<Record> {
+        let number = strings::number_of_records(&mut self.random);
+        let in_hand = mem::replace(&mut self.state, state);
+        self.packed = Some(Vec::new());
+        while self.packed_records() < number {
+            match self.random.below(10) {
+                0 => self.read_what_the_buffer_holds(),
+                1 => self.number_of_some_length(),
+                2..=3 => self.write_something(),
+                4 => self.read_something(),
+                5..=7 if number > 6 => self.traffic_drill(),
+                _ => self.any_call(),
+            }
+        }
+        self.state = in_hand;
+        let mut records = self.packed.take().unwrap_or_default();
+        records.truncate(number);
+        records
+    }
+
+    fn packed_records(&self) -> usize {
+        self.packed.as_ref().map_or(0, Vec::len)
+    }
+
+    /// Makes the call on the state in hand and packs its record, if it has a kind and is accepted.
+    fn pack(&mut self, call: &Call) {
+        if let (Some(records), Some(record)) = (&mut self.packed, call.record()) {
+            let (refusal, _) = call.make(&mut self.state);
+            if refusal == ACCEPTED {
+                records.push(record);
+            }
+        }
+    }
+
+    /// An answer that only the number of answer bytes can tell from the rest of the buffer.
+    fn read_what_the_buffer_holds(&mut self) {
+        self.write(0x01, 0xA5);
+        for _ in 0..self.random.between(1, 3) {
+            self.make(Call::Read { address: 0x01 });
+        }
+    }
+
+    fn number_of_some_length(&mut self) {
+        let count = choices::number_of_some_length(&mut self.random);
+        if self.random.chance(1, 2) {
+            self.make(Call::Ticks { count });
+        } else {
+            let channel = self.some_channel() + 1;
+            self.make(Call::Tachometer { channel, count });
         }
     }
 }
@@ -342,10 +455,14 @@ impl Scenario {
 
     /// Writes the call's line, makes the call on the model and writes the answer that it expects.
     fn make(&mut self, call: Call) {
+        if self.packed.is_some() {
+            self.pack(&call);
+            return;
+        }
         if self.random.chance(1, 40) {
             self.input.push_str(&skipped_line(&mut self.random));
         }
-        let line = call_line(&mut self.random, call.word(), &call.numbers());
+        let line = call_line(&mut self.random, &call.words());
         self.input.push_str(&line);
         let before = self.state;
         let (refusal, answer) = call.make(&mut self.state);
@@ -404,8 +521,22 @@ impl Scenario {
     }
 
     fn query(&mut self) {
-        let call = self.random.pick(&[Call::Cabin, Call::FanFail, Call::Dump]);
-        self.make(call);
+        match self.random.below(3) {
+            0 => self.make(Call::Cabin),
+            1 => self.make(Call::FanFail),
+            _ => self.make(Call::Dump),
+        }
+    }
+
+    fn any_call(&mut self) {
+        match self.random.below(8) {
+            0 => self.write_something(),
+            1 => self.read_something(),
+            2 => self.result_somewhere(),
+            3 => self.query(),
+            4 => self.flip_pin(),
+            _ => self.pass_ticks(),
+        }
     }
 
     /// Both bytes of an output duty.
@@ -466,10 +597,7 @@ impl Scenario {
         let index = self.some_channel();
         let about = self.channel(index);
         let count = choices::count_about(&mut self.random, &about);
-        let any = self.random.any();
-        let none = self
-            .random
-            .pick(&[0, 7, 8, 255, 256, 257, 65_537, u32::MAX, any]);
+        let none = choices::no_channel(&mut self.random);
         let channel = self.random.weighted(&[(3, index + 1), (1, none)]);
         self.make(Call::Tachometer { channel, count });
     }
@@ -553,6 +681,20 @@ mod tests {
         assert!(seen.spin_ups_begun >= 400);
         assert!(seen.clock_wraps >= 100 && seen.resets >= 40);
         assert!(seen.sound_loads >= 200 && seen.flawed_loads >= 4 * FLAWS.len());
+    }
+
+    #[test]
+    fn a_scenario_of_some_length_runs_strings_of_every_kind() {
+        let seen = scenario(2, 20_000).seen;
+        let runs = &seen.runs;
+        assert!(4 * runs.calls() >= seen.calls);
+        for refusal in [0, 1, 2, 3, 4, 5, 10, 11, 12, 13, 15] {
+            assert!(runs.answers[refusal] >= 80, "{refusal}");
+        }
+        assert!(runs.whole_strings >= 1000 && runs.allowances_used_up >= 500);
+        assert!(runs.empty_strings >= 50 && runs.hidden_answers >= 200);
+        assert!(runs.records >= 20_000 && runs.most_records >= 300);
+        assert!(seen.encodings >= 100);
     }
 
     #[test]

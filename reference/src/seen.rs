@@ -4,12 +4,16 @@ use std::fmt;
 
 use crate::console::Call;
 use crate::model::{deciding_line, judged, sound, Line, State, ACCEPTED, CHANNELS, RESET};
+use crate::orders::{self, Reader, Run};
 
 #[derive(Default)]
 pub struct Seen {
     pub calls: usize,
-    /// By refusal number, 0 for accepted; dumps and loads are not counted here.
+    /// By refusal number, 0 for accepted; dumps, loads, runs and encodings are not counted here.
     pub answers: [usize; 8],
+    pub encodings: usize,
+    pub runs: SeenRuns,
+    // From here on, what single calls did and what the records did that runs took.
     /// Tachometer results that were not stored, not judged, judged good, judged bad.
     pub results: [usize; 4],
     pub faults_raised: usize,
@@ -27,6 +31,23 @@ pub struct Seen {
     pub lines: [usize; 7],
 }
 
+/// What its runs have met.
+#[derive(Default)]
+pub struct SeenRuns {
+    /// By refusal number, 0 for accepted.
+    pub answers: [usize; 16],
+    /// Accepted runs that took a string to its end.
+    pub whole_strings: usize,
+    /// Accepted runs that left some of the string, the allowance being used up.
+    pub allowances_used_up: usize,
+    pub empty_strings: usize,
+    pub records: usize,
+    pub most_records: usize,
+    pub answer_bytes: usize,
+    /// Runs whose last answer is the byte that the buffer holds anyway.
+    pub hidden_answers: usize,
+}
+
 impl Seen {
     pub fn note(&mut self, call: &Call, before: &State, refusal: u32, answer: &str, after: &State) {
         self.calls += 1;
@@ -34,8 +55,49 @@ impl Seen {
             Call::Dump => self.dumps += 1,
             Call::Load(state) if sound(&state) => self.sound_loads += 1,
             Call::Load(_) => self.flawed_loads += 1,
-            _ => self.answers[refusal as usize] += 1,
+            Call::Encode(_) => self.encodings += 1,
+            Call::Run {
+                ref string,
+                allowance,
+                room,
+            } => {
+                let mut buffer = vec![0xA5; room as usize];
+                let run = orders::run(before, string, allowance, &mut buffer);
+                let rest = self.note_records(string, run.taken, before, after);
+                self.runs.note(&run, string, rest, &buffer[..run.written]);
+            }
+            Call::FanFail => {
+                self.answers[refusal as usize] += 1;
+                self.fan_fail_asserted += usize::from(answer.starts_with("0 1"));
+            }
+            _ => {
+                self.answers[refusal as usize] += 1;
+                self.note_effects(call, before, refusal, after);
+            }
         }
+    }
+
+    /// Makes the calls of the records that a run took, one by one; gives the rest of the string.
+    fn note_records<'a>(
+        &mut self,
+        string: &'a [u8],
+        taken: u32,
+        before: &State,
+        after: &State,
+    ) -> &'a [u8] {
+        let mut reader = Reader { rest: string };
+        let mut state = *before;
+        for _ in 0..taken {
+            let call = reader.call().expect("a run takes no malformed record");
+            let before = state;
+            let (refusal, _) = call.make(&mut state);
+            self.note_effects(&call, &before, refusal, &state);
+        }
+        assert_eq!(state, *after);
+        reader.rest
+    }
+
+    fn note_effects(&mut self, call: &Call, before: &State, refusal: u32, after: &State) {
         match *call {
             Call::Ticks { count } if refusal == ACCEPTED => self.note_ticks(before, count, after),
             Call::Write { address, byte } if refusal == ACCEPTED => {
@@ -48,7 +110,6 @@ impl Seen {
                 self.results[kind_of_result(before, after, channel as usize - 1)] += 1;
                 self.faults_raised += gained(before.faults, after.faults);
             }
-            Call::FanFail => self.fan_fail_asserted += usize::from(answer.starts_with("0 1")),
             _ => {}
         }
     }
@@ -67,6 +128,25 @@ impl Seen {
 
     fn note_access(&mut self, before: &State) {
         self.expiries_ended += usize::from(before.expired);
+    }
+}
+
+impl SeenRuns {
+    pub fn calls(&self) -> usize {
+        self.answers.iter().sum()
+    }
+
+    fn note(&mut self, run: &Run, string: &[u8], rest: &[u8], answers: &[u8]) {
+        let taken = run.taken as usize;
+        let accepted = run.refusal == ACCEPTED;
+        self.answers[run.refusal as usize] += 1;
+        self.whole_strings += usize::from(accepted && rest.is_empty());
+        self.allowances_used_up += usize::from(accepted && !rest.is_empty());
+        self.empty_strings += usize::from(string.is_empty());
+        self.records += taken;
+        self.most_records = self.most_records.max(taken);
+        self.answer_bytes += answers.len();
+        self.hidden_answers += usize::from(answers.last() == Some(&0xA5));
     }
 }
 
@@ -100,11 +180,31 @@ fn line_number(line: Line) -> usize {
     }
 }
 
+impl fmt::Display for SeenRuns {
+    fn fmt(&self, out: &mut fmt::Formatter) -> fmt::Result {
+        writeln!(out, "  runs: {}", self.calls())?;
+        for (number, times) in self.answers.iter().enumerate() {
+            if *times > 0 {
+                writeln!(out, "  runs answered {number}: {times}")?;
+            }
+        }
+        writeln!(out, "  runs of a whole string: {}", self.whole_strings)?;
+        writeln!(out, "  allowances used up: {}", self.allowances_used_up)?;
+        writeln!(out, "  runs of an empty string: {}", self.empty_strings)?;
+        let (records, most) = (self.records, self.most_records);
+        writeln!(out, "  records taken: {records}, in one run: {most}")?;
+        writeln!(out, "  answer bytes: {}", self.answer_bytes)?;
+        writeln!(out, "  runs with A5h last: {}", self.hidden_answers)
+    }
+}
+
 impl fmt::Display for Seen {
     fn fmt(&self, out: &mut fmt::Formatter) -> fmt::Result {
         for (number, times) in self.answers.iter().enumerate() {
             writeln!(out, "  answered {number}: {times}")?;
         }
+        writeln!(out, "  encodings: {}", self.encodings)?;
+        write!(out, "{}", self.runs)?;
         let [ignored, unjudged, good, bad] = self.results;
         writeln!(
             out,

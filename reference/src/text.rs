@@ -1,34 +1,84 @@
-//! The text forms that the console allows: numerals, gaps between words, line ends, and lines that
-//! answer nothing.
+//! The text forms that the console allows: numerals, bytes, gaps between words, line ends, and
+//! lines that answer nothing.
 
 use crate::random::Random;
 
-/// One call's line. Most are plain; the others use the freedom that the console gives.
-pub fn call_line(random: &mut Random, word: &str, numbers: &[u32]) -> String {
-    let plain_numbers = random.chance(3, 4);
+/// Longer lines are errors.
+pub const LONGEST_LINE: usize = 4096;
+
+/// A word of a line: as it stands, or one that may be written in several ways.
+pub enum Word<'a> {
+    Name(&'static str),
+    Number(u32),
+    Bytes(&'a [u8]),
+}
+
+/// One call's line. Most are plain; the others use the freedom that the console gives, as far as
+/// the line has room for it.
+pub fn call_line(random: &mut Random, words: &[Word]) -> String {
+    let mut line = free_line(random, words);
+    if line.len() > LONGEST_LINE {
+        line = plain_line(words);
+    }
+    if random.chance(1, 2000) {
+        line.push_str(&" ".repeat(LONGEST_LINE.saturating_sub(line.len())));
+    }
+    line.push_str(line_end(random));
+    line
+}
+
+pub fn plain_line(words: &[Word]) -> String {
+    let words: Vec<String> = words.iter().map(plain_word).collect();
+    words.join(" ")
+}
+
+fn plain_word(word: &Word) -> String {
+    match *word {
+        Word::Name(name) => name.to_string(),
+        Word::Number(number) => number.to_string(),
+        Word::Bytes(bytes) => byte_pairs(bytes),
+    }
+}
+
+fn free_line(random: &mut Random, words: &[Word]) -> String {
+    let plain_words = random.chance(3, 4);
     let plain_gaps = random.chance(11, 12);
     let mut line = String::new();
     if !plain_gaps && random.chance(1, 2) {
         line.push_str(gap(random));
     }
-    line.push_str(word);
-    for &number in numbers {
-        line.push_str(if plain_gaps { " " } else { gap(random) });
-        if plain_numbers {
-            line.push_str(&number.to_string());
+    for (place, word) in words.iter().enumerate() {
+        if place > 0 {
+            line.push_str(if plain_gaps { " " } else { gap(random) });
+        }
+        if plain_words {
+            line.push_str(&plain_word(word));
         } else {
-            line.push_str(&numeral(random, number));
+            line.push_str(&free_word(random, word));
         }
     }
     if !plain_gaps && random.chance(1, 2) {
         line.push_str(gap(random));
     }
-    if random.chance(1, 2000) {
-        // Long, and still below the 4,096 bytes that a line may have.
-        line.push_str(&" ".repeat(3900_usize.saturating_sub(line.len())));
-    }
-    line.push_str(line_end(random));
     line
+}
+
+fn free_word(random: &mut Random, word: &Word) -> String {
+    match *word {
+        Word::Name(name) => name.to_string(),
+        Word::Number(number) => numeral(random, number),
+        // "hexadecimal digits in pairs, capital or small"
+        Word::Bytes(bytes) if random.chance(1, 2) => byte_pairs(bytes).to_uppercase(),
+        Word::Bytes(bytes) => mixed_case(random, &byte_pairs(bytes)),
+    }
+}
+
+/// "Printed bytes are small letters, `-` where there are none."
+pub fn byte_pairs(bytes: &[u8]) -> String {
+    if bytes.is_empty() {
+        return "-".to_string();
+    }
+    bytes.iter().map(|byte| format!("{byte:02x}")).collect()
 }
 
 fn gap(random: &mut Random) -> &'static str {
@@ -66,15 +116,19 @@ fn numeral(random: &mut Random, number: u32) -> String {
         Numeral::Decimal => number.to_string(),
         Numeral::LowerHexadecimal => format!("0x{number:x}"),
         Numeral::UpperHexadecimal => format!("0X{number:X}"),
-        Numeral::MixedHexadecimal => mixed_case(random, number),
+        Numeral::MixedHexadecimal => {
+            let prefix = random.pick(&["0x", "0X"]);
+            let digits = mixed_case(random, &format!("{number:x}"));
+            format!("{prefix}{digits}")
+        }
         Numeral::ZerosDecimal => format!("{zeros}{number}"),
         Numeral::ZerosHexadecimal => format!("0x{zeros}{number:X}"),
     }
 }
 
-fn mixed_case(random: &mut Random, number: u32) -> String {
-    let mut text = random.pick(&["0x", "0X"]).to_string();
-    for digit in format!("{number:x}").chars() {
+fn mixed_case(random: &mut Random, digits: &str) -> String {
+    let mut text = String::new();
+    for digit in digits.chars() {
         if random.chance(1, 2) {
             text.push(digit.to_ascii_uppercase());
         } else {
@@ -119,27 +173,61 @@ mod tests {
         }
     }
 
+    /// The bytes of a word of bytes, by the console's words.
+    fn bytes(text: &str) -> Option<Vec<u8>> {
+        if text == "-" {
+            return Some(Vec::new());
+        }
+        let pairs = text.as_bytes().chunks(2);
+        pairs
+            .map(|pair| u8::from_str_radix(std::str::from_utf8(pair).ok()?, 16).ok())
+            .collect()
+    }
+
+    /// The words of a line, which must not be too long.
+    fn words(line: &str) -> Vec<&str> {
+        let ended = line.strip_suffix('\n').unwrap();
+        let ended = ended.strip_suffix('\r').unwrap_or(ended);
+        assert!(ended.len() <= LONGEST_LINE);
+        let words = ended.split([' ', '\t']);
+        words.filter(|word| !word.is_empty()).collect()
+    }
+
     #[test]
     fn a_line_says_its_word_and_its_numbers() {
         let mut random = Random::new(5);
         for turn in 0..50_000 {
             let numbers = [turn, random.any(), u32::MAX, 0];
-            let line = call_line(&mut random, "start", &numbers);
-            let ended = line.strip_suffix('\n').unwrap();
-            let ended = ended.strip_suffix('\r').unwrap_or(ended);
-            let mut words = ended.split([' ', '\t']).filter(|word| !word.is_empty());
-            assert!(line.len() <= 4000);
-            assert_eq!(words.next(), Some("start"));
-            let read: Option<Vec<u32>> = words.map(value).collect();
+            let mut said = vec![Word::Name("start")];
+            said.extend(numbers.map(Word::Number));
+            let line = call_line(&mut random, &said);
+            let found = words(&line);
+            assert_eq!(found[0], "start");
+            let read: Option<Vec<u32>> = found[1..].iter().copied().map(value).collect();
             assert_eq!(read.as_deref(), Some(&numbers[..]), "{line}");
+        }
+    }
+
+    #[test]
+    fn a_line_says_its_bytes() {
+        let mut random = Random::new(5);
+        for turn in 0..5_000 {
+            let string: Vec<u8> = (0..turn % 40).map(|_| random.byte()).collect();
+            let said = [Word::Name("run"), Word::Bytes(&string), Word::Number(turn)];
+            let line = call_line(&mut random, &said);
+            let found = words(&line);
+            assert_eq!(bytes(found[1]), Some(string), "{line}");
+            assert_eq!(value(found[2]), Some(turn));
         }
     }
 
     #[test]
     fn the_longest_load_fits_into_a_line() {
         let mut random = Random::new(6);
+        let mut said = vec![Word::Name("load")];
+        said.extend([u32::MAX; 68].map(Word::Number));
         for _ in 0..5_000 {
-            assert!(call_line(&mut random, "load", &[u32::MAX; 68]).len() <= 4000);
+            assert_eq!(words(&call_line(&mut random, &said)).len(), 69);
         }
     }
 

@@ -17,7 +17,7 @@ fn put_number(n: u32, out: &mut [u8], at: usize) -> usize
 }
 
 // Numbers, each after a space.
-fn put_spaced(numbers: &[u32], out: &mut [u8], at: usize) -> usize
+pub fn put_spaced(numbers: &[u32], out: &mut [u8], at: usize) -> usize
     ensures { λ r. ⌜ Put (spaced (now (numbers .entry))) at (now (out .entry)) (now (out .exit)) r ⌝ }
 {
     let mut next = at;

@@ -41,7 +41,7 @@ pub fn replied(hand: Hand, at: usize) -> Reply
     Reply { hand: hand, at: at }
 }
 
-fn with_state(hand: Hand, state: State) -> Hand
+pub fn with_state(hand: Hand, state: State) -> Hand
     ensures { λ r. ⌜ r ≡ withState hand state ⌝ }
 {
     let mut next = hand;

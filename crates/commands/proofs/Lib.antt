@@ -1,6 +1,5 @@
-pub mod Names
-pub mod Limits
-pub mod Rows
+pub mod Parameters
 pub mod Taking
 pub mod Parsing
-pub mod Order
+pub mod Called
+pub mod Halves

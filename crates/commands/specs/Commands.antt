@@ -1,84 +1,167 @@
 -- A line as a command: "A line that is not a call (unknown word, wrong number of words, not a number, a number too large for
 -- that parameter ..) answers `error: line N: REASON`".
-use Prim.Native.Nat.{ℕ, _+_}
-use mathlib.Core.List.{List, [], _∷_}
-use lib.ListN.{length, getD}
+use Prim.Native.Nat.{ℕ, _+_, _≤_}
+use mathlib.Core.List.{List, [], _∷_, _++_, map}
+use lib.ListN.{length}
 use lib.Dec.{eqb, ltb}
 use Rattle.rules.specs.Basics.{if_then_else_}
 use Rattle.text.specs.declared.number.Number.{Number}
 use Rattle.text.specs.declared.number.Number.the-variants as number
+use Rattle.hex.specs.declared.Spelled.{Spelled}
+use Rattle.hex.specs.declared.Spelled.the-variants as spelled
 use Rattle.text.specs.Number.{numberOf}
-use Rattle.commands.specs.declared.table.Verb.{Verb}
-use Rattle.commands.specs.declared.Reason.the-variants.{UnknownCommand, WordCount, NotNumber, TooLarge}
+use Rattle.hex.specs.Bytes.{bytesOf as spelledBy, countOf, listOf}
+use Rattle.text.specs.Words.{wordsOf}
+use Rattle.strings.specs.declared.Order.{Order}
+use Rattle.strings.specs.declared.Order.the-variants as order
+use Rattle.table.specs.declared.Asks.{Asks}
+use Rattle.table.specs.declared.Asks.the-variants.{For, Record}
+use Rattle.table.specs.declared.Parameter.{Parameter}
+use Rattle.table.specs.declared.Parameter.the-variants as parameter
+use Rattle.table.specs.declared.Kind.{Kind}
+use Rattle.table.specs.declared.Kind.the-variants.{Write, Read, Ticks, Tachometer, Pin}
+use Rattle.table.specs.declared.Recorded.{Recorded}
+use Rattle.table.specs.declared.Recorded.the-variants.{As, Not}
+use Rattle.commands.specs.declared.Reason.{Reason}
+use Rattle.commands.specs.declared.Reason.the-variants.{UnknownCommand, WordCount, NotNumber, TooLarge, NotBytes, NoRecord, LineTooLong}
 use Rattle.commands.specs.declared.Value.{Value}
 use Rattle.commands.specs.declared.Value.the-variants.{Taken, Refused}
-use Rattle.commands.specs.declared.Numbers.{Numbers}
-use Rattle.commands.specs.declared.Numbers.the-variants as numbers
+use Rattle.commands.specs.declared.Values.{Values}
+use Rattle.commands.specs.declared.Values.the-variants as values
 use Rattle.commands.specs.declared.Parsed.{Parsed}
-use Rattle.commands.specs.declared.Parsed.the-variants.{Call, Wrong}
-use Rattle.commands.specs.Table.{Named, known, unknown, namedBy}
+use Rattle.commands.specs.declared.Parsed.the-variants.{Call, Encode, Wrong}
+use Rattle.table.specs.Table.{Row, any, Named, known, unknown, namedBy}
 
--- ---- its numbers, each with a limit
+-- ---- its parameters
 
--- the largest that number i may be, counted from 0
-abbrev pub limitAt : List ℕ → ℕ → ℕ
-limitAt limits i = getD limits i 0
-
--- a number as the word at a place, with a limit
+-- a number as the word at a place, with the largest that it may be
 abbrev pub valueBy : ℕ → ℕ → Number → Value
 valueBy most place (number.Value n) = if ltb most n then Refused (TooLarge place most) else Taken n
 valueBy most place number.TooLarge = Refused (TooLarge place most)
 valueBy most place number.NotNumber = Refused (NotNumber place)
 
--- what a word is as number i. Its place is counted from 1, the command's own word among them
-unfoldable pub valueOf : List ℕ → ℕ → List ℕ → Value
-valueOf limits i word = valueBy (limitAt limits i) (i + 2) (numberOf word)
+-- two digits a byte: a line of 4,096 bytes has no more
+abbrev pub lineBytes : ℕ
+lineBytes = 2_048
+
+-- bytes as the word at a place: the value is how many they are. "`word K is not bytes`"
+abbrev pub countBy : ℕ → Spelled → Value
+countBy place (spelled.Bytes count) = if ltb lineBytes count then Refused LineTooLong else Taken count
+countBy place spelled.NotBytes = Refused (NotBytes place)
+
+-- what a word is as a parameter. Its place is counted from 1, the line's first word among them
+unfoldable pub valueOf : Parameter → ℕ → List ℕ → Value
+valueOf (parameter.Number most) place word = valueBy most place (numberOf word)
+valueOf parameter.Bytes place word = countBy place (countOf (spelledBy word))
 
 -- the first word that cannot be taken decides
-abbrev pub takenBy : Value → Numbers → Numbers
+abbrev pub takenBy : Value → Values → Values
 takenBy (Taken n) rest = rest
-takenBy (Refused reason) rest = numbers.Wrong reason
+takenBy (Refused reason) rest = values.Wrong reason
 
-unfoldable pub takenOf : List ℕ → ℕ → List (List ℕ) → Numbers
-takenOf limits i [] = numbers.Taken
-takenOf limits i (word ∷ words) = takenBy (valueOf limits i word) (takenOf limits (i + 1) words)
+unfoldable pub takenOf : List Parameter → ℕ → List (List ℕ) → Values
+takenOf [] place words = values.Taken
+takenOf (parameter ∷ parameters) place [] = values.Taken
+takenOf (parameter ∷ parameters) place (word ∷ words) = takenBy (valueOf parameter place word) (takenOf parameters (place + 1) words)
 
--- the numbers before it
-abbrev pub numbersBy : Value → List ℕ → List ℕ
-numbersBy (Taken n) rest = n ∷ rest
-numbersBy (Refused reason) rest = []
+-- the values before it
+abbrev pub valuesBefore : Value → List ℕ → List ℕ
+valuesBefore (Taken n) rest = n ∷ rest
+valuesBefore (Refused reason) rest = []
 
-unfoldable pub numbersOf : List ℕ → ℕ → List (List ℕ) → List ℕ
-numbersOf limits i [] = []
-numbersOf limits i (word ∷ words) = numbersBy (valueOf limits i word) (numbersOf limits (i + 1) words)
+unfoldable pub numbersOf : List Parameter → ℕ → List (List ℕ) → List ℕ
+numbersOf [] place words = []
+numbersOf (parameter ∷ parameters) place [] = []
+numbersOf (parameter ∷ parameters) place (word ∷ words) = valuesBefore (valueOf parameter place word) (numbersOf parameters (place + 1) words)
 
--- ---- the whole line
+-- the bytes of all bytes parameters, one after the other
+abbrev pub bytesAs : Parameter → List ℕ → List ℕ
+bytesAs (parameter.Number most) word = []
+bytesAs parameter.Bytes word = listOf (spelledBy word)
 
-abbrev pub parsedBy : Verb → Numbers → Parsed
-parsedBy verb numbers.Taken = Call verb
-parsedBy verb (numbers.Wrong reason) = Wrong reason
+unfoldable pub bytesIn : List Parameter → List (List ℕ) → List ℕ
+bytesIn [] words = []
+bytesIn (parameter ∷ parameters) [] = []
+bytesIn (parameter ∷ parameters) (word ∷ words) = bytesAs parameter word ++ bytesIn parameters words
 
--- a row of the table, and the words after its name
-unfoldable pub parsedIn : ℕ → Verb → List ℕ → List (List ℕ) → Parsed
-parsedIn i verb limits words =
-    if eqb (length words) (length limits) then parsedBy verb (takenOf limits 0 words) else Wrong (WordCount i)
+-- ---- how a line is read
 
-abbrev pub parsedAs : Named → List (List ℕ) → Parsed
-parsedAs unknown words = Wrong UnknownCommand
-parsedAs (known i row) words = parsedIn i (row .verb) (row .limits) words
+-- by a row of the table, at its place there: what the line is if its parameters can be taken, the parameters, the place of the word
+-- that is the first of them, and the words; or a reason why it is no call
+pub data Line : Type 0 where
+  reading : ℕ → Parsed → List Parameter → ℕ → List (List ℕ) → Line
+  wrong : Reason → Line
+
+-- "every number may go to 4,294,967,295"
+abbrev pub widened : List Parameter → List Parameter
+widened parameters = map (λ parameter. any) parameters
+
+-- "CALL is a line of a call that has a kind"
+abbrev pub recordBy : ℕ → Row → Recorded → List (List ℕ) → Line
+recordBy i row Not words = wrong NoRecord
+recordBy i row (As kind) words = reading i (Encode kind) (widened (row .parameters)) 3 words
+
+abbrev pub recordAs : Named → List (List ℕ) → Line
+recordAs unknown words = wrong NoRecord
+recordAs (known i row) words = recordBy i row (row .recorded) words
+
+-- the words after `encode`, whose row stands at a place
+unfoldable pub recordOf : ℕ → List (List ℕ) → Line
+recordOf place [] = wrong (WordCount place)
+recordOf place (word ∷ words) = recordAs (namedBy word) words
+
+abbrev pub lineBy : ℕ → Row → Asks → List (List ℕ) → Line
+lineBy i row (For verb) words = reading i (Call verb) (row .parameters) 2 words
+lineBy i row Record words = recordOf i words
+
+abbrev pub lineAs : Named → List (List ℕ) → Line
+lineAs unknown words = wrong UnknownCommand
+lineAs (known i row) words = lineBy i row (row .asks) words
+
+unfoldable pub lineOf : List (List ℕ) → Line
+lineOf [] = wrong UnknownCommand
+lineOf (word ∷ words) = lineAs (namedBy word) words
+
+-- ---- what a line is
+
+abbrev pub parsedAs : Parsed → Values → Parsed
+parsedAs parsed values.Taken = parsed
+parsedAs parsed (values.Wrong reason) = Wrong reason
+
+abbrev pub parsedBy : Line → Parsed
+parsedBy (wrong reason) = Wrong reason
+parsedBy (reading i parsed parameters first words) =
+    if eqb (length words) (length parameters) then parsedAs parsed (takenOf parameters first words) else Wrong (WordCount i)
+
+-- the values that it hands over: its numbers, and how many bytes each bytes parameter has
+abbrev pub valuesBy : Line → List ℕ
+valuesBy (wrong reason) = []
+valuesBy (reading i parsed parameters first words) =
+    if eqb (length words) (length parameters) then numbersOf parameters first words else []
+
+-- and the bytes
+abbrev pub bytesBy : Line → List ℕ
+bytesBy (wrong reason) = []
+bytesBy (reading i parsed parameters first words) =
+    if eqb (length words) (length parameters) then bytesIn parameters words else []
 
 unfoldable pub parsedOf : List (List ℕ) → Parsed
-parsedOf [] = Wrong UnknownCommand
-parsedOf (word ∷ words) = parsedAs (namedBy word) words
-
--- the numbers that a line hands over
-unfoldable pub valuesIn : List ℕ → List (List ℕ) → List ℕ
-valuesIn limits words = if eqb (length words) (length limits) then numbersOf limits 0 words else []
-
-abbrev pub valuesAs : Named → List (List ℕ) → List ℕ
-valuesAs unknown words = []
-valuesAs (known i row) words = valuesIn (row .limits) words
+parsedOf words = parsedBy (lineOf words)
 
 unfoldable pub valuesOf : List (List ℕ) → List ℕ
-valuesOf [] = []
-valuesOf (word ∷ words) = valuesAs (namedBy word) words
+valuesOf words = valuesBy (lineOf words)
+
+unfoldable pub bytesOf : List (List ℕ) → List ℕ
+bytesOf words = bytesBy (lineOf words)
+
+-- "a line longer than 4,096 bytes" is no call; of any other none of the bytes is left out
+abbrev pub NoneLeftOut : Type 0
+NoneLeftOut = (line : List ℕ) → length line ≤ 4_096 → length (bytesOf (wordsOf line)) ≤ lineBytes
+
+-- ---- the record that is encoded, by its kind and its first two numbers
+abbrev pub orderBy : Kind → ℕ → ℕ → Order
+orderBy Write address value = order.Write address value
+orderBy Read address second = order.Read address
+orderBy Ticks n second = order.Ticks n
+orderBy Tachometer channel count = order.Tachometer channel count
+orderBy Pin level second = order.Pin level

@@ -1,28 +1,41 @@
-// A line's words as a command: which one it is, and its numbers. specs/ says what they mean.
-mod table;
-
+// A line's words as a command: which one it is, its numbers and its bytes. specs/ says what they mean.
 ghost use mathlib.Core.Path.{_≡_};
 ghost use Prim.Native.Nat.{_+_, _<_, _≤_};
-ghost use lib.ListN.{length, drop};
+ghost use lib.ListN.{length, drop, getD};
 ghost use lib.Seq.{sets};
 ghost use Rattle.image.specs.Image.{numberCount};
 ghost use Rattle.text.specs.Number.{numberOf};
+ghost use Rattle.hex.specs.Bytes.{bytesOf as spelledBy, countOf};
 ghost use Rattle.text.specs.Words.{wordsOf};
-ghost use Rattle.commands.specs.Commands.{limitAt, valueBy, takenOf, numbersOf, parsedIn, parsedOf, valuesIn, valuesOf};
-ghost use Rattle.commands.specs.Steps.{limitsOf};
+ghost use Rattle.text.specs.Put.{Put};
+ghost use Rattle.table.specs.declared.Parameter.the-variants.{Bytes};
+ghost use Rattle.commands.specs.Commands.{valueBy, countBy, valueOf, takenOf, numbersOf, bytesAs, bytesIn, reading, recordOf, lineOf, parsedOf, valuesOf, bytesOf, orderBy};
+ghost use Rattle.table.specs.Rows.{listedIn};
+ghost use Rattle.commands.specs.Steps.{parametersAs, parametersOf, Gives};
+use hex::Spelled;
+use hex::count_bytes;
+use hex::take_bytes;
 use image::STATE_NUMBERS;
+use strings::Order;
+use table::Asks;
 use table::Command;
-use table::Found;
 use table::Kind;
+use table::LARGEST;
+use table::Parameter;
 use table::ROWS;
-pub use table::Verb;
+use table::Recorded;
+use table::Verb;
 use table::find;
-pub use table::put_usage;
+use table::held;
 use text::line::Word;
 use text::line::count_words;
 use text::line::next_word;
 use text::number::Number;
 use text::number::parse;
+use text::put::put;
+
+// The most bytes that the bytes parameters of a line have together: two digits a byte, in a line of 4,096 bytes.
+pub const LINE_BYTES: usize = 2048;
 
 // Why a line is no call. A word is counted from 1.
 pub enum Reason {
@@ -32,40 +45,65 @@ pub enum Reason {
     NotNumber(u32),
     // The word, and the largest number that it may be.
     TooLarge(u32, u32),
+    NotBytes(u32),
+    // What is to be encoded is no call that has a kind.
+    NoRecord,
     LineTooLong,
 }
 
-// Whether the numbers of a line can be taken.
-pub enum Numbers {
+// Whether the parameters of a line can be taken.
+pub enum Values {
     Taken,
     Wrong(Reason),
 }
 
-// The call that a line is, if it is one.
+// The call that a line is, or the kind of the record that it asks for, if it is one.
 pub enum Parsed {
     Call(Verb),
+    Encode(Kind),
     Wrong(Reason),
 }
 
-// What a word is as one of a command's numbers.
+// What a word is as one of a command's parameters: a number, or how many bytes.
 pub enum Value {
     Taken(u32),
     Refused(Reason),
 }
 
-// The largest that a command's number may be, the numbers counted from 0.
-fn limit(command: Command, i: usize) -> u32
-    requires { ⌜ i < length (limitsOf command) ⌝ }
-    ensures { λ r. ⌜ r ≡ limitAt (limitsOf command) i ⌝ }
+// The parameters that a line has to have: as many as a row's, and held as the row holds them; of a record, each any number.
+pub struct Asked {
+    pub count: usize,
+    pub slots: [u64; 4],
+    pub wide: bool,
+}
+
+// What a row asks for; or a record of it.
+fn asked_by(command: Command, wide: bool) -> Asked
+    ensures { λ r. ⌜ (r .count ≡ command .count) × (parametersOf r ≡ parametersAs wide (listedIn command)) ⌝ }
 {
-    let kind = command.kind;
-    match kind {
-        Kind::State => image::limit(i),
-        Kind::Listed => command.most[i],
+    let slots = command.slots;
+    Asked {
+        count: command.count,
+        slots: slots,
+        wide: wide,
     }
 }
 
-// A word as a number up to a limit. Its place among the words is counted from 1, the command's own among them.
+// A parameter, counted from 0.
+fn parameter(asked: Asked, i: usize) -> Parameter
+    requires { ⌜ i < length (parametersOf asked) ⌝ }
+    ensures { λ r. ⌜ r ≡ getD (parametersOf asked) i Bytes ⌝ }
+{
+    if asked.wide {
+        return Parameter::Number(LARGEST);
+    }
+    if asked.count <= 4 {
+        return held(asked.slots[i]);
+    }
+    Parameter::Number(image::limit(i))
+}
+
+// A word as a number up to a limit. Its place among the words is counted from 1, the line's first among them.
 fn limited(word: &[u8], most: u32, place: u32) -> Value
     ensures { λ r. ⌜ r ≡ valueBy most place (numberOf (now (word .entry))) ⌝ }
 {
@@ -82,54 +120,147 @@ fn limited(word: &[u8], most: u32, place: u32) -> Value
     }
 }
 
-// Takes a command's numbers, which are the words of a line from an index on.
-fn take_numbers(line: &[u8], from: usize, command: Command, values: &mut [u32]) -> Numbers
-    requires { ⌜ (length (now values) ≡ numberCount) × (command .count ≤ numberCount) × (length (limitsOf command) ≡ command .count) ⌝ }
-    requires { ⌜ length (wordsOf (drop from (now line))) ≡ command .count ⌝ }
-    ensures { λ r. ⌜ r ≡ takenOf (limitsOf command) 0 (wordsOf (drop from (now (line .entry)))) ⌝ }
-    ensures { λ r. ⌜ now (values .exit) ≡ sets (now (values .entry)) 0 (numbersOf (limitsOf command) 0 (wordsOf (drop from (now (line .entry))))) ⌝ }
+// A word as bytes. A line that has more of them than a line can have is too long.
+fn counted(word: &[u8], place: u32) -> Value
+    ensures { λ r. ⌜ r ≡ countBy place (countOf (spelledBy (now (word .entry)))) ⌝ }
+{
+    let spelled = count_bytes(word);
+    match spelled {
+        Spelled::NotBytes => Value::Refused(Reason::NotBytes(place)),
+        Spelled::Bytes(count) => {
+            if LINE_BYTES < count {
+                return Value::Refused(Reason::LineTooLong);
+            }
+            Value::Taken(count as u32)
+        }
+    }
+}
+
+fn taken(word: &[u8], parameter: Parameter, place: u32) -> Value
+    ensures { λ r. ⌜ r ≡ valueOf parameter place (now (word .entry)) ⌝ }
+{
+    match parameter {
+        Parameter::Number(most) => limited(word, most, place),
+        Parameter::Bytes => counted(word, place),
+    }
+}
+
+// Takes the values of the words of a line from an index on. The first of them has a place among all words, counted from 1.
+fn take_values(line: &[u8], from: usize, asked: Asked, first: u32, values: &mut [u32]) -> Values
+    requires { ⌜ (length (now values) ≡ numberCount) × (asked .count ≤ numberCount) × (length (parametersOf asked) ≡ asked .count) × (first ≤ 3) ⌝ }
+    requires { ⌜ length (wordsOf (drop from (now line))) ≡ asked .count ⌝ }
+    ensures { λ r. ⌜ r ≡ takenOf (parametersOf asked) first (wordsOf (drop from (now (line .entry)))) ⌝ }
+    ensures { λ r. ⌜ now (values .exit) ≡ sets (now (values .entry)) 0 (numbersOf (parametersOf asked) first (wordsOf (drop from (now (line .entry))))) ⌝ }
 {
     let mut at = from;
     let mut i = 0;
-    while i < command.count {
+    while i < asked.count {
         let next = next_word(line, at);
         let Word::At(begin, end) = next else {
-            return Numbers::Taken;
+            return Values::Taken;
         };
-        let value = limited(&line[begin..end], limit(command, i), i as u32 + 2);
+        let parameter = parameter(asked, i);
+        let value = taken(&line[begin..end], parameter, first + i as u32);
         match value {
-            Value::Refused(reason) => return Numbers::Wrong(reason),
+            Value::Refused(reason) => return Values::Wrong(reason),
             Value::Taken(n) => values[i] = n,
         }
         at = end;
         i += 1;
     }
-    Numbers::Taken
+    Values::Taken
 }
 
-// What a line is by a row of the table: its words, of which the name ends at an index, are counted, and its numbers taken.
-fn parse_row(line: &[u8], end: usize, found: Found, values: &mut [u32]) -> Parsed
-    requires { ⌜ (length (now values) ≡ numberCount) × (found .row .count ≤ numberCount) × (length (limitsOf (found .row)) ≡ found .row .count) ⌝ }
-    requires { ⌜ length (wordsOf (now line)) ≡ length (wordsOf (drop end (now line))) + 1 ⌝ }
-    ensures { λ r. ⌜ r ≡ parsedIn (found .place) (found .row .verb) (limitsOf (found .row)) (wordsOf (drop end (now (line .entry)))) ⌝ }
-    ensures { λ r. ⌜ now (values .exit) ≡ sets (now (values .entry)) 0 (valuesIn (limitsOf (found .row)) (wordsOf (drop end (now (line .entry))))) ⌝ }
+// Puts the bytes of one parameter.
+fn put_parameter(word: &[u8], parameter: Parameter, bytes: &mut [u8], at: usize) -> usize
+    ensures { λ r. ⌜ Put (bytesAs parameter (now (word .entry))) at (now (bytes .entry)) (now (bytes .exit)) r ⌝ }
 {
-    let command = found.row;
-    let verb = command.verb;
-    if count_words(line) != command.count + 1 {
-        return Parsed::Wrong(Reason::WordCount(found.place));
-    }
-    let numbers = take_numbers(line, end, command, values);
-    match numbers {
-        Numbers::Taken => Parsed::Call(verb),
-        Numbers::Wrong(reason) => Parsed::Wrong(reason),
+    match parameter {
+        Parameter::Number(_) => put(b"", bytes, at),
+        Parameter::Bytes => take_bytes(word, bytes, at),
     }
 }
 
-fn parse_into(line: &[u8], values: &mut [u32]) -> Parsed
+// Puts the bytes of all bytes parameters, which are among the words of a line from an index on, one after the other.
+fn put_strings(line: &[u8], from: usize, asked: Asked, bytes: &mut [u8])
+    requires { ⌜ (length (parametersOf asked) ≡ asked .count) × (length (wordsOf (drop from (now line))) ≡ asked .count) ⌝ }
+    ensures { λ r. ⌜ now (bytes .exit) ≡ sets (now (bytes .entry)) 0 (bytesIn (parametersOf asked) (wordsOf (drop from (now (line .entry))))) ⌝ }
+{
+    let mut at = from;
+    let mut filled = 0;
+    let mut i = 0;
+    while i < asked.count {
+        let next = next_word(line, at);
+        let Word::At(begin, end) = next else {
+            return;
+        };
+        let parameter = parameter(asked, i);
+        filled = put_parameter(&line[begin..end], parameter, bytes, filled);
+        at = end;
+        i += 1;
+    }
+}
+
+// What a line is by the row at a place of the table: the words from an index on are counted, and its values and bytes taken.
+fn parse_row(
+    line: &[u8],
+    end: usize,
+    place: usize,
+    parsed: Parsed,
+    asked: Asked,
+    first: u32,
+    values: &mut [u32],
+    bytes: &mut [u8],
+) -> Parsed
+    requires { ⌜ (length (now values) ≡ numberCount) × (asked .count ≤ numberCount) × (length (parametersOf asked) ≡ asked .count) ⌝ }
+    requires { ⌜ (end ≤ length (now line)) × (first ≤ 3) ⌝ }
+    ensures { λ r. ⌜ Gives (reading place parsed (parametersOf asked) first (wordsOf (drop end (now (line .entry))))) (now (values .entry)) (now (bytes .entry)) (now (values .exit)) (now (bytes .exit)) r ⌝ }
+{
+    if count_words(&line[end..]) != asked.count {
+        return Parsed::Wrong(Reason::WordCount(place));
+    }
+    put_strings(line, end, asked, bytes);
+    let taken = take_values(line, end, asked, first, values);
+    match taken {
+        Values::Taken => parsed,
+        Values::Wrong(reason) => Parsed::Wrong(reason),
+    }
+}
+
+// What the words from an index on are after `encode`, whose row stands at a place of the table.
+fn parse_record(
+    line: &[u8],
+    from: usize,
+    place: usize,
+    values: &mut [u32],
+    bytes: &mut [u8],
+) -> Parsed
     requires { ⌜ length (now values) ≡ numberCount ⌝ }
-    ensures { λ r. ⌜ r ≡ parsedOf (wordsOf (now (line .entry))) ⌝ }
-    ensures { λ r. ⌜ now (values .exit) ≡ sets (now (values .entry)) 0 (valuesOf (wordsOf (now (line .entry)))) ⌝ }
+    ensures { λ r. ⌜ Gives (recordOf place (wordsOf (drop from (now (line .entry))))) (now (values .entry)) (now (bytes .entry)) (now (values .exit)) (now (bytes .exit)) r ⌝ }
+{
+    let next = next_word(line, from);
+    let Word::At(begin, end) = next else {
+        return Parsed::Wrong(Reason::WordCount(place));
+    };
+    let found = find(&line[begin..end]);
+    if ROWS <= found.place {
+        return Parsed::Wrong(Reason::NoRecord);
+    }
+    let command = found.row;
+    let recorded = command.recorded;
+    match recorded {
+        Recorded::Not => Parsed::Wrong(Reason::NoRecord),
+        Recorded::As(kind) => {
+            let parsed = Parsed::Encode(kind);
+            let asked = asked_by(command, true);
+            parse_row(line, end, found.place, parsed, asked, 3, values, bytes)
+        }
+    }
+}
+
+fn parse_into(line: &[u8], values: &mut [u32], bytes: &mut [u8]) -> Parsed
+    requires { ⌜ length (now values) ≡ numberCount ⌝ }
+    ensures { λ r. ⌜ Gives (lineOf (wordsOf (now (line .entry)))) (now (values .entry)) (now (bytes .entry)) (now (values .exit)) (now (bytes .exit)) r ⌝ }
 {
     let first = next_word(line, 0);
     let Word::At(begin, end) = first else {
@@ -139,13 +270,40 @@ fn parse_into(line: &[u8], values: &mut [u32]) -> Parsed
     if ROWS <= found.place {
         return Parsed::Wrong(Reason::UnknownCommand);
     }
-    parse_row(line, end, found, values)
+    let command = found.row;
+    let asks = command.asks;
+    match asks {
+        Asks::Record => parse_record(line, end, found.place, values, bytes),
+        Asks::For(verb) => {
+            let parsed = Parsed::Call(verb);
+            let asked = asked_by(command, false);
+            parse_row(line, end, found.place, parsed, asked, 2, values, bytes)
+        }
+    }
 }
 
-// The call that a line is, and its numbers in the values.
-pub fn parse_line(line: &[u8], values: &mut [u32; STATE_NUMBERS]) -> Parsed
+// What a line is, with its values, and its bytes one after the other.
+pub fn parse_line(
+    line: &[u8],
+    values: &mut [u32; STATE_NUMBERS],
+    bytes: &mut [u8; LINE_BYTES],
+) -> Parsed
     ensures { λ r. ⌜ r ≡ parsedOf (wordsOf (now (line .entry))) ⌝ }
     ensures { λ r. ⌜ now (values .exit) ≡ sets (now (values .entry)) 0 (valuesOf (wordsOf (now (line .entry)))) ⌝ }
+    ensures { λ r. ⌜ now (bytes .exit) ≡ sets (now (bytes .entry)) 0 (bytesOf (wordsOf (now (line .entry)))) ⌝ }
 {
-    parse_into(line, values)
+    parse_into(line, values, bytes)
+}
+
+// The record that a line asks for, of its first two values.
+pub fn order_by(kind: Kind, first: u32, second: u32) -> Order
+    ensures { λ r. ⌜ r ≡ orderBy kind first second ⌝ }
+{
+    match kind {
+        Kind::Write => Order::Write(first, second),
+        Kind::Read => Order::Read(first),
+        Kind::Ticks => Order::Ticks(first),
+        Kind::Tachometer => Order::Tachometer(first, second),
+        Kind::Pin => Order::Pin(first),
+    }
 }

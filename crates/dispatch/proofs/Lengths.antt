@@ -6,12 +6,12 @@ use native.Mathlib.Omega.{arith}
 use lib.Dec.{leb}
 use borrow.Author.Tests.{leb-true}
 use Rattle.text.specs.Frame.{Frame}
-use Rattle.commands.specs.declared.table.Verb.{Verb}
-use Rattle.commands.specs.declared.table.Verb.the-variants.{Start, Write, Read, Ticks, Tach, Pin, Cabin, FanFail, Speed, Dump, Load, Show, Chart, Help}
+use Rattle.table.specs.declared.Verb.{Verb}
+use Rattle.table.specs.declared.Verb.the-variants.{Start, Write, Read, Ticks, Tach, Pin, Cabin, FanFail, Speed, Dump, Load, Show, Chart, Run, Decode, Help}
 use Rattle.commands.specs.declared.Parsed.the-variants.{Call}
-use Rattle.commands.specs.Table.{commands, longestOf}
+use Rattle.table.specs.Table.{commands, longestOf}
 use Rattle.commands.specs.Commands.{parsedOf}
-use Rattle.commands.proofs.Order.{called-tested}
+use Rattle.commands.proofs.Called.{called-tested}
 use Rattle.answers.specs.declared.replies.Hand.{Hand}
 use Rattle.answers.specs.declared.replies.Reply.{Reply}
 use Rattle.dispatch.specs.Answers.{longestAnswer, Shows, Answers}
@@ -27,21 +27,23 @@ module _ {hand : Hand} {at : ℕ} {before after : List ℕ} {reply : Reply} wher
   shows r f = (r .0, rw (r .1) f)
 
 module _ (hand : Hand) (at : ℕ) (before after : List ℕ) (reply : Reply) where
-  pub row-long : (verb : Verb) (v : List ℕ) → Answers hand at before after reply verb v → reply .at ≤ at + longestOf verb
-  row-long Start v a = a .within
-  row-long Write v a = a .within
-  row-long Read v a = a .within
-  row-long Ticks v a = a .within
-  row-long Tach v a = a .within
-  row-long Pin v a = a .within
-  row-long Cabin v a = a .within
-  row-long FanFail v a = a .within
-  row-long Speed v a = a .within
-  row-long Dump v a = a .within
-  row-long Load v a = a .within
-  row-long Show v a = a .1 .within
-  row-long Chart v a = a .1 .within
-  row-long Help v a = a .1 .within
+  pub row-long : (verb : Verb) (v bytes : List ℕ) → Answers hand at before after reply verb v bytes → reply .at ≤ at + longestOf verb
+  row-long Start v bytes a = a .within
+  row-long Write v bytes a = a .within
+  row-long Read v bytes a = a .within
+  row-long Ticks v bytes a = a .within
+  row-long Tach v bytes a = a .within
+  row-long Pin v bytes a = a .within
+  row-long Cabin v bytes a = a .within
+  row-long FanFail v bytes a = a .within
+  row-long Speed v bytes a = a .within
+  row-long Dump v bytes a = a .within
+  row-long Load v bytes a = a .within
+  row-long Show v bytes a = a .1 .within
+  row-long Chart v bytes a = a .1 .within
+  row-long Run v bytes a = a .within
+  row-long Decode v bytes a = a .1 .within
+  row-long Help v bytes a = a .1 .within
 
-  pub call-long : (words : List (List ℕ)) (verb : Verb) (v : List ℕ) → parsedOf words ≡ Call verb → Answers hand at before after reply verb v → reply .at ≤ at + longestAnswer
-  call-long words verb v e a = omega (arith, row-long verb v a, room words e)
+  pub call-long : (words : List (List ℕ)) (verb : Verb) (v bytes : List ℕ) → parsedOf words ≡ Call verb → Answers hand at before after reply verb v bytes → reply .at ≤ at + longestAnswer
+  call-long words verb v bytes e a = omega (arith, row-long verb v bytes a, room words e)

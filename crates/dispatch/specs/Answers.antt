@@ -4,25 +4,27 @@ use mathlib.Core.Path.{_≡_}
 use mathlib.Core.List.{List}
 use lib.ListN.{replicate}
 use lib.Seq.{sets}
-use Rattle.image.specs.Image.{numberCount}
+use Rattle.image.specs.Image.{numberCount, number}
 use Rattle.text.specs.Words.{wordsOf}
 use Rattle.text.specs.Frame.{Frame}
-use Rattle.commands.specs.declared.table.Verb.{Verb}
-use Rattle.commands.specs.declared.table.Verb.the-variants.{Start, Write, Read, Ticks, Tach, Pin, Cabin, FanFail, Speed, Dump, Load, Show, Chart, Help}
+use Rattle.table.specs.declared.Verb.{Verb}
+use Rattle.table.specs.declared.Verb.the-variants.{Start, Write, Read, Ticks, Tach, Pin, Cabin, FanFail, Speed, Dump, Load, Show, Chart, Run, Decode, Help}
+use Rattle.table.specs.declared.Kind.{Kind}
 use Rattle.commands.specs.declared.Parsed.{Parsed}
-use Rattle.commands.specs.declared.Parsed.the-variants.{Call, Wrong}
-use Rattle.commands.specs.Table.{longestOf}
-use Rattle.commands.specs.Commands.{parsedOf, valuesOf}
+use Rattle.commands.specs.declared.Parsed.the-variants.{Call, Encode, Wrong}
+use Rattle.table.specs.Table.{longestOf}
+use Rattle.commands.specs.Commands.{parsedOf, valuesOf, lineBytes, bytesOf, orderBy}
 use Rattle.answers.specs.declared.replies.Hand.{Hand}
 use Rattle.answers.specs.declared.replies.Reply.{Reply}
 use Rattle.answers.specs.Replies.{Makes, MakesRead, Starts, TellsFanFail, TellsCabin, TellsSpeed, Dumps, Loads, writeCall, readCall, ticksCall, tachCall, pinCall}
+use Rattle.order_text.specs.Replies.{Runs, Encodes}
 
 -- the longest error; the longest answer, for which room is made before each line
 abbrev pub longestError : ℕ
 longestError = 97
 
 abbrev pub longestAnswer : ℕ
-longestAnswer = 4096
+longestAnswer = 43_079
 
 -- what is in hand, the index that the answer begins at, the buffer before and after, and the reply
 module _ (hand : Hand) (at : ℕ) (before after : List ℕ) (reply : Reply) where
@@ -31,27 +33,37 @@ module _ (hand : Hand) (at : ℕ) (before after : List ℕ) (reply : Reply) wher
   Shows most = (reply .hand ≡ hand) × Frame most at before after (reply .at)
 
   -- a command's answer, and what is in hand after it
-  abbrev pub Answers : Verb → List ℕ → Type 0
-  Answers Start v = Starts hand at before after reply v
-  Answers Write v = Makes hand at before after reply (writeCall v)
-  Answers Read v = MakesRead hand at before after reply (readCall v)
-  Answers Ticks v = Makes hand at before after reply (ticksCall v)
-  Answers Tach v = Makes hand at before after reply (tachCall v)
-  Answers Pin v = Makes hand at before after reply (pinCall v)
-  Answers Cabin v = TellsCabin hand at before after reply
-  Answers FanFail v = TellsFanFail hand at before after reply
-  Answers Speed v = TellsSpeed hand at before after reply v
-  Answers Dump v = Dumps hand at before after reply
-  Answers Load v = Loads hand at before after reply v
-  Answers Show v = Shows (longestOf Show)
-  Answers Chart v = Shows (longestOf Chart)
-  Answers Help v = Shows (longestOf Help)
+  abbrev pub Answers : Verb → List ℕ → List ℕ → Type 0
+  Answers Start v bytes = Starts hand at before after reply v
+  Answers Write v bytes = Makes hand at before after reply (writeCall v)
+  Answers Read v bytes = MakesRead hand at before after reply (readCall v)
+  Answers Ticks v bytes = Makes hand at before after reply (ticksCall v)
+  Answers Tach v bytes = Makes hand at before after reply (tachCall v)
+  Answers Pin v bytes = Makes hand at before after reply (pinCall v)
+  Answers Cabin v bytes = TellsCabin hand at before after reply
+  Answers FanFail v bytes = TellsFanFail hand at before after reply
+  Answers Speed v bytes = TellsSpeed hand at before after reply v
+  Answers Dump v bytes = Dumps hand at before after reply
+  Answers Load v bytes = Loads hand at before after reply v
+  Answers Show v bytes = Shows (longestOf Show)
+  Answers Chart v bytes = Shows (longestOf Chart)
+  Answers Run v bytes = Runs hand at before after reply v bytes
+  Answers Decode v bytes = Shows (longestOf Decode)
+  Answers Help v bytes = Shows (longestOf Help)
+
+  -- the record of a kind
+  abbrev pub AnswersRecord : Kind → List ℕ → Type 0
+  AnswersRecord kind v = Encodes hand at before after reply (orderBy kind (number v 0) (number v 1))
 
   -- "a line that is no call leaves the state in hand as it was"
-  abbrev pub AnswersAs : Parsed → List ℕ → Type 0
-  AnswersAs (Call verb) v = Answers verb v
-  AnswersAs (Wrong reason) v = Shows longestError
+  abbrev pub AnswersAs : Parsed → List ℕ → List ℕ → Type 0
+  AnswersAs (Call verb) v bytes = Answers verb v bytes
+  AnswersAs (Encode kind) v bytes = AnswersRecord kind v
+  AnswersAs (Wrong reason) v bytes = Shows longestError
 
-  -- a line; its numbers are the first of as many as a state has, and the others are 0
+  -- a line; its values are the first of as many as a state has numbers, its bytes the first of as many as a line can have, and the
+  -- others are 0
   abbrev pub AnswersLine : List ℕ → Type 0
-  AnswersLine line = AnswersAs (parsedOf (wordsOf line)) (sets (replicate numberCount 0) 0 (valuesOf (wordsOf line)))
+  AnswersLine line =
+      AnswersAs (parsedOf (wordsOf line)) (sets (replicate numberCount 0) 0 (valuesOf (wordsOf line)))
+      (sets (replicate lineBytes 0) 0 (bytesOf (wordsOf line)))

@@ -1,6 +1,6 @@
 // A line's command, and the function that answers it.
 ghost use Prim.Native.Nat.{_+_, _≤_};
-ghost use Rattle.dispatch.specs.Answers.{longestError, longestAnswer, Shows, Answers, AnswersLine};
+ghost use Rattle.dispatch.specs.Answers.{longestError, longestAnswer, Shows, Answers, AnswersRecord, AnswersLine};
 use answers::replies::Hand;
 use answers::replies::Reply;
 use answers::replies::cabin_reply;
@@ -16,19 +16,32 @@ use answers::replies::tach_reply;
 use answers::replies::ticks_reply;
 use answers::replies::write_reply;
 use chart::put_chart;
+use commands::LINE_BYTES;
 use commands::Parsed;
 use commands::Reason;
-use commands::Verb;
+use commands::order_by;
 use commands::parse_line;
-use display::errors::put_error;
-use display::help::put_help;
-use display::show::put_show;
 use image::STATE_NUMBERS;
 use image::value;
+use messages::errors::put_error;
+use messages::help::put_help;
+use order_text::decoded::put_decoded;
+use order_text::replies::encode_reply;
+use order_text::replies::run_reply;
+use show::put_show;
+use table::Kind;
+use table::Verb;
 
-// Answers a command with the numbers of its line.
-fn reply_to(verb: Verb, hand: Hand, values: &[u32], out: &mut [u8], at: usize) -> Reply
-    ensures { λ r. ⌜ Answers hand at (now (out .entry)) (now (out .exit)) r verb (now (values .entry)) ⌝ }
+// Answers a command with the values and the bytes of its line.
+fn reply_to(
+    verb: Verb,
+    hand: Hand,
+    values: &[u32; STATE_NUMBERS],
+    bytes: &[u8; LINE_BYTES],
+    out: &mut [u8],
+    at: usize,
+) -> Reply
+    ensures { λ r. ⌜ Answers hand at (now (out .entry)) (now (out .exit)) r verb (now (values .entry)) (now (bytes .entry)) ⌝ }
 {
     match verb {
         Verb::Start => start_reply(hand, values, out, at),
@@ -44,8 +57,24 @@ fn reply_to(verb: Verb, hand: Hand, values: &[u32], out: &mut [u8], at: usize) -
         Verb::Load => load_reply(hand, values, out, at),
         Verb::Show => replied(hand, put_show(hand.state, out, at)),
         Verb::Chart => replied(hand, put_chart(hand.state, value(values, 0), out, at)),
+        Verb::Run => run_reply(hand, values, bytes, out, at),
+        Verb::Decode => replied(hand, put_decoded(values, bytes, out, at)),
         Verb::Help => replied(hand, put_help(out, at)),
     }
+}
+
+// Answers with the record of a kind, made of the first two numbers of its line.
+fn record_reply(
+    kind: Kind,
+    hand: Hand,
+    values: &[u32; STATE_NUMBERS],
+    out: &mut [u8],
+    at: usize,
+) -> Reply
+    ensures { λ r. ⌜ AnswersRecord hand at (now (out .entry)) (now (out .exit)) r kind (now (values .entry)) ⌝ }
+{
+    let order = order_by(kind, value(values, 0), value(values, 1));
+    encode_reply(hand, order, out, at)
 }
 
 // Says why a line, counted from 1, is no call.
@@ -61,9 +90,11 @@ pub fn answer(line: &[u8], number: u32, hand: Hand, out: &mut [u8], at: usize) -
     ensures { λ r. ⌜ r .at ≤ at + longestAnswer ⌝ }
 {
     let mut values = [0u32; STATE_NUMBERS];
-    let parsed = parse_line(line, &mut values);
+    let mut bytes = [0u8; LINE_BYTES];
+    let parsed = parse_line(line, &mut values, &mut bytes);
     match parsed {
         Parsed::Wrong(reason) => refuse(reason, number, hand, out, at),
-        Parsed::Call(verb) => reply_to(verb, hand, &values, out, at),
+        Parsed::Call(verb) => reply_to(verb, hand, &values, &bytes, out, at),
+        Parsed::Encode(kind) => record_reply(kind, hand, &values, out, at),
     }
 }

@@ -11,7 +11,7 @@ use crate::lines::gather;
 use answers::replies::Hand;
 
 // No answer is longer than this.
-const LONGEST_ANSWER: usize = 4096;
+const LONGEST_ANSWER: usize = 43079;
 
 // What goes from one block to the next: what is in hand, how many lines have ended, the line that has not, and how much of
 // the output is not yet written.

@@ -1,4 +1,4 @@
-// Numbers and words from bytes, and numbers back to bytes. specs/ says what they mean.
+// Numbers and words from text, and numbers back to text. specs/ says what they mean.
 pub mod decimal;
 pub mod fraction;
 pub mod line;

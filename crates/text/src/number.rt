@@ -16,7 +16,7 @@ pub enum Number {
 const LIMIT: u64 = 0x1_0000_0000;
 
 // The digit that a byte is, in a base up to 16; 16 of a byte that is none.
-fn digit(byte: u8) -> u64
+pub fn digit(byte: u8) -> u64
     ensures { λ r. ⌜ r ≡ digitOf byte ⌝ }
 {
     if byte < b'0' {

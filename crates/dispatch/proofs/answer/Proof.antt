@@ -1,13 +1,7 @@
 -- `dispatch::answer` meets its contract. Assumes nothing.
-use Prim.Native.Nat.{ℕ}
-use mathlib.Core.Path.{_≡_, refl, sym, ap, _∙_}
-use mathlib.Core.List.{List}
+use mathlib.Core.Path.{sym, _∙_}
 use native.Mathlib.Omega.{arith}
-use lib.ListN.{length, replicate}
-use lib.Seq.{sets, length-sets}
-use Rattle.image.specs.Image.{numberCount}
 use Rattle.text.specs.Words.{wordsOf}
-use Rattle.commands.specs.Commands.{valuesOf}
 use borrow.Author.Needs.{needs}
 use Rattle.dispatch.proofs.Lengths.{call-long}
 use Rattle.dispatch.proofs.answer.Statement.{statement}
@@ -25,17 +19,14 @@ refuse-requires c κs = tt
 enum-known-parsed-2 : tie.Need-enum-known-parsed-2
 enum-known-parsed-2 c = search needs
 
--- the values stay as many as they were
-as-many : (before after new : List ℕ) → length before ≡ numberCount → after ≡ sets before 0 new → numberCount ≡ length after
-as-many before after new many e = sym (ap length e ∙ length-sets before 0 new ∙ many)
-
-slice-aggregate-reply-to : tie.Need-slice-aggregate-reply-to
-slice-aggregate-reply-to c =
-    let line = c .before .before .before .before .before .before .before .before .args .line .now in
-    as-many (replicate numberCount 0) _ (valuesOf (wordsOf line)) refl (c .before .before .before .before .parse-line .ensures .1)
-
 reply-to-requires : tie.Need-reply-to-requires
 reply-to-requires c κs = tt
+
+enum-known-parsed-3 : tie.Need-enum-known-parsed-3
+enum-known-parsed-3 c = search needs
+
+record-reply-requires : tie.Need-record-reply-requires
+record-reply-requires c κs = tt
 
 same-length : tie.Need-same-length
 same-length c = search needs
@@ -52,10 +43,20 @@ same-length-2 c = search needs
 returns-2 : tie.Need-returns-2
 returns-2 c =
     let reply = c .before .before .reply-to in
-    let known = c .before .before .before .before .before in
+    let known = c .before .before .before .before .before .before in
     let parsed = known .before .before .before .parse-line in
     let is = sym (parsed .ensures .0) ∙ known .before .parsed2 .given .1 in
-    (rw is (rw (parsed .ensures .1) at (reply .ensures)), call-long _ _ _ _ _ (wordsOf _) _ _ is (reply .ensures))
+    (rw is (rw (parsed .ensures .1 .0, parsed .ensures .1 .1) at (reply .ensures)), call-long _ _ _ _ _ (wordsOf _) _ _ _ is (reply .ensures))
+
+same-length-3 : tie.Need-same-length-3
+same-length-3 c = search needs
+
+returns-3 : tie.Need-returns-3
+returns-3 c =
+    let reply = c .before .before .record-reply in
+    let known = c .before .before .before .before .before in
+    let parsed = known .before .before .before .parse-line in
+    (rw (sym (parsed .ensures .0) ∙ known .before .parsed3 .given .1) (rw (parsed .ensures .1 .0) at (reply .ensures)), omega (arith, reply .ensures .within))
 
 pub answer-spec : {M : Type 1} → statement M
 answer-spec =
@@ -65,9 +66,12 @@ answer-spec =
     enum-known-parsed
     refuse-requires
     enum-known-parsed-2
-    slice-aggregate-reply-to
     reply-to-requires
+    enum-known-parsed-3
+    record-reply-requires
     same-length
     returns
     same-length-2
-    returns-2)
+    returns-2
+    same-length-3
+    returns-3)

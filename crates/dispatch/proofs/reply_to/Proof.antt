@@ -1,4 +1,6 @@
 -- `dispatch::reply_to` meets its contract. Assumes nothing.
+use native.Mathlib.Omega.{arith}
+use Rattle.text.proofs.Frames.{frame-looser}
 use borrow.Author.Needs.{needs}
 use Rattle.dispatch.proofs.Lengths.{shows}
 use Rattle.dispatch.proofs.reply_to.Statement.{statement}
@@ -94,47 +96,62 @@ replied-requires-2 c κs = tt
 enum-told-14 : tie.Need-enum-told-14
 enum-told-14 c = search needs
 
-put-help-requires : tie.Need-put-help-requires
-put-help-requires c κs = tt
+run-reply-requires : tie.Need-run-reply-requires
+run-reply-requires c κs = tt
+
+enum-told-15 : tie.Need-enum-told-15
+enum-told-15 c = search needs
+
+put-decoded-requires : tie.Need-put-decoded-requires
+put-decoded-requires c κs = tt
 
 replied-requires-3 : tie.Need-replied-requires-3
 replied-requires-3 c κs = tt
+
+enum-told-16 : tie.Need-enum-told-16
+enum-told-16 c = search needs
+
+put-help-requires : tie.Need-put-help-requires
+put-help-requires c κs = tt
+
+replied-requires-4 : tie.Need-replied-requires-4
+replied-requires-4 c κs = tt
 
 same-length : tie.Need-same-length
 same-length c = search needs
 
 returns : tie.Need-returns
-returns c = rw (c .before .before .before .before .enum-told .given .1) (c .before .before .start-reply .ensures)
+returns c = rw (c .before .before .before .before .before .enum-told .given .1) (c .before .before .start-reply .ensures)
 
 same-length-2 : tie.Need-same-length-2
 same-length-2 c = search needs
 
 returns-2 : tie.Need-returns-2
-returns-2 c = rw (c .before .before .before .before .enum-told2 .given .1) (c .before .before .write-reply .ensures)
+returns-2 c = rw (c .before .before .before .before .before .enum-told2 .given .1) (c .before .before .write-reply .ensures)
 
 same-length-3 : tie.Need-same-length-3
 same-length-3 c = search needs
 
 returns-3 : tie.Need-returns-3
-returns-3 c = rw (c .before .before .before .before .enum-told3 .given .1) (c .before .before .read-reply .ensures)
+returns-3 c = rw (c .before .before .before .before .before .enum-told3 .given .1) (c .before .before .read-reply .ensures)
 
 same-length-4 : tie.Need-same-length-4
 same-length-4 c = search needs
 
 returns-4 : tie.Need-returns-4
-returns-4 c = rw (c .before .before .before .before .enum-told4 .given .1) (c .before .before .ticks-reply .ensures)
+returns-4 c = rw (c .before .before .before .before .before .enum-told4 .given .1) (c .before .before .ticks-reply .ensures)
 
 same-length-5 : tie.Need-same-length-5
 same-length-5 c = search needs
 
 returns-5 : tie.Need-returns-5
-returns-5 c = rw (c .before .before .before .before .enum-told5 .given .1) (c .before .before .tach-reply .ensures)
+returns-5 c = rw (c .before .before .before .before .before .enum-told5 .given .1) (c .before .before .tach-reply .ensures)
 
 same-length-6 : tie.Need-same-length-6
 same-length-6 c = search needs
 
 returns-6 : tie.Need-returns-6
-returns-6 c = rw (c .before .before .before .before .enum-told6 .given .1) (c .before .before .pin-reply .ensures)
+returns-6 c = rw (c .before .before .before .before .before .enum-told6 .given .1) (c .before .before .pin-reply .ensures)
 
 same-length-7 : tie.Need-same-length-7
 same-length-7 c = search needs
@@ -152,7 +169,7 @@ same-length-9 : tie.Need-same-length-9
 same-length-9 c = search needs
 
 returns-9 : tie.Need-returns-9
-returns-9 c = rw (c .before .before .before .before .enum-told9 .given .1) (c .before .before .speed-reply .ensures)
+returns-9 c = rw (c .before .before .before .before .before .enum-told9 .given .1) (c .before .before .speed-reply .ensures)
 
 same-length-10 : tie.Need-same-length-10
 same-length-10 c = search needs
@@ -164,7 +181,7 @@ same-length-11 : tie.Need-same-length-11
 same-length-11 c = search needs
 
 returns-11 : tie.Need-returns-11
-returns-11 c = rw (c .before .before .before .before .enum-told11 .given .1) (c .before .before .load-reply .ensures)
+returns-11 c = rw (c .before .before .before .before .before .enum-told11 .given .1) (c .before .before .load-reply .ensures)
 
 same-length-12 : tie.Need-same-length-12
 same-length-12 c = search needs
@@ -176,13 +193,25 @@ same-length-13 : tie.Need-same-length-13
 same-length-13 c = search needs
 
 returns-13 : tie.Need-returns-13
-returns-13 c = rw (c .before .before .before .before .before .before .enum-told13 .given .1) (shows (c .replied2 .ensures) (c .before .before .before .put-chart .ensures))
+returns-13 c = rw (c .before .before .before .before .before .before .before .enum-told13 .given .1) (shows (c .replied2 .ensures) (c .before .before .before .put-chart .ensures))
 
 same-length-14 : tie.Need-same-length-14
 same-length-14 c = search needs
 
 returns-14 : tie.Need-returns-14
-returns-14 c = rw (c .before .before .before .before .before .enum-told14 .given .1) (shows (c .replied3 .ensures) (c .before .before .before .put-help .ensures))
+returns-14 c = rw (c .before .before .before .before .before .before .enum-told14 .given .1) (c .before .before .run-reply .ensures)
+
+same-length-15 : tie.Need-same-length-15
+same-length-15 c = search needs
+
+returns-15 : tie.Need-returns-15
+returns-15 c = rw (c .before .before .before .before .before .before .before .enum-told15 .given .1) (shows (c .replied3 .ensures) (frame-looser (omega arith) (c .before .before .before .put-decoded .ensures)))
+
+same-length-16 : tie.Need-same-length-16
+same-length-16 c = search needs
+
+returns-16 : tie.Need-returns-16
+returns-16 c = rw (c .before .before .before .before .before .enum-told16 .given .1) (shows (c .replied4 .ensures) (c .before .before .before .put-help .ensures))
 
 pub reply-to-spec : {M : Type 1} → statement M
 reply-to-spec =
@@ -218,8 +247,13 @@ reply-to-spec =
     put-chart-requires
     replied-requires-2
     enum-told-14
-    put-help-requires
+    run-reply-requires
+    enum-told-15
+    put-decoded-requires
     replied-requires-3
+    enum-told-16
+    put-help-requires
+    replied-requires-4
     same-length
     returns
     same-length-2
@@ -247,4 +281,8 @@ reply-to-spec =
     same-length-13
     returns-13
     same-length-14
-    returns-14)
+    returns-14
+    same-length-15
+    returns-15
+    same-length-16
+    returns-16)

@@ -1,0 +1,32 @@
+// `help`: a line for each command.
+ghost use Rattle.text.specs.Frame.{Frame};
+use form::put_text;
+
+pub fn put_help(out: &mut [u8], at: usize) -> usize
+    ensures { λ r. ⌜ Frame 1350 at (now (out .entry)) (now (out .exit)) r ⌝ }
+{
+    put_text(
+        b"A command, and what it answers. Numbers are decimal, or hexadecimal after 0x.
+A STRING is bytes: hexadecimal digits in pairs, or - for none.
+start WATCHDOG SPINUP TARGET FREQUENCY  refusal; 0 is accepted, here and below
+write ADDRESS BYTE                      refusal
+read ADDRESS                            refusal, byte
+ticks N                                 refusal; a tick is 1/512 s
+tach CHANNEL COUNT                      refusal
+pin LEVEL                               refusal; 0 is low, 1 is high
+cabin                                   refusal, seconds, six shares
+fanfail                                 refusal, asserted, how many, lowest channel
+speed RANGE PULSES COUNT                refusal, speed
+dump                                    the state's 68 numbers
+load NUMBERS                            ok; the state is made of these 68 numbers
+show                                    the state for a person to read
+chart TICKS                             the duties over the next TICKS ticks, drawn
+run STRING ALLOWANCE ROOM               refusal, records taken, answer bytes, the buffer of ROOM bytes
+encode CALL                             a write, read, ticks, tach or pin as its record, in bytes
+decode STRING                           the records of STRING for a person to read
+help                                    these lines
+",
+        out,
+        at,
+    )
+}

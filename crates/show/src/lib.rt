@@ -1,0 +1,201 @@
+// `show`: the state for a person to read. Each text promises a frame: what stands before it stays, and how long it is at most.
+ghost use Rattle.text.specs.Frame.{Frame};
+use device::codes::watchdog_limit;
+use device::duty::conditions;
+use device::duty::output_duty;
+use device::valid::valid;
+use form::put_either;
+use form::put_form;
+use form::put_seconds;
+use form::put_text;
+use form::put_valid;
+use registers::fields::range_code;
+use registers::fields::tachometer_enabled;
+use registers::fields::watchdog_code;
+use rules::Channel;
+use rules::Conditions;
+use rules::STATE_NOT_VALID;
+use rules::Speed;
+use rules::State;
+
+fn put_watchdog(limit: u16, expired: bool, idle: u16, out: &mut [u8], at: usize) -> usize
+    ensures { λ r. ⌜ Frame 52 at (now (out .entry)) (now (out .exit)) r ⌝ }
+{
+    if limit == 0 {
+        return put_text(b"watchdog  off", out, at);
+    }
+    if expired {
+        return put_text(b"watchdog  expired", out, at);
+    }
+    put_form(
+        b"watchdog  counting, # of # ticks",
+        &[idle as u32, limit as u32],
+        out,
+        at,
+    )
+}
+
+// Whether the state is valid, the clock, and the watchdog with its status bit.
+fn put_timer(state: State, out: &mut [u8], at: usize) -> usize
+    ensures { λ r. ⌜ Frame 148 at (now (out .entry)) (now (out .exit)) r ⌝ }
+{
+    let timer = state.timer;
+    let limit = watchdog_limit(watchdog_code(state.registers.control));
+    let valid = put_valid(valid(state), out, at);
+    let clock = put_seconds(b"clock     ", timer.clock, out, valid);
+    let watchdog = put_watchdog(limit, timer.expired, timer.idle, out, clock);
+    put_either(
+        timer.status,
+        b", status bit set\n",
+        b", status bit clear\n",
+        out,
+        watchdog,
+    )
+}
+
+fn put_fan_fail(
+    known: bool,
+    asserted: bool,
+    failed: u32,
+    lowest: u32,
+    out: &mut [u8],
+    at: usize,
+) -> usize
+    ensures { λ r. ⌜ Frame 70 at (now (out .entry)) (now (out .exit)) r ⌝ }
+{
+    if !known {
+        return put_text(
+            b"FAN_FAIL  not known: the query refuses the state\n",
+            out,
+            at,
+        );
+    }
+    if !asserted {
+        return put_text(b"FAN_FAIL  not asserted\n", out, at);
+    }
+    put_form(
+        b"FAN_FAIL  asserted, # failed, lowest is channel #\n",
+        &[failed, lowest],
+        out,
+        at,
+    )
+}
+
+// The standby bit, and the two pins.
+fn put_pins(state: State, standby: bool, out: &mut [u8], at: usize) -> usize
+    ensures { λ r. ⌜ Frame 124 at (now (out .entry)) (now (out .exit)) r ⌝ }
+{
+    let begin = put_either(standby, b"standby   yes\n", b"standby   no\n", out, at);
+    let pin = put_either(
+        state.pin,
+        b"pin       FULL_SPEED is high\n",
+        b"pin       FULL_SPEED is low: full speed\n",
+        out,
+        begin,
+    );
+    let answer = fan_fail::fan_fail(state);
+    let known = answer.refusal != STATE_NOT_VALID;
+    put_fan_fail(
+        known,
+        answer.asserted,
+        answer.failed,
+        answer.lowest,
+        out,
+        pin,
+    )
+}
+
+// Why a count gives no speed.
+fn put_no_speed(enabled: bool, count: u16, out: &mut [u8], at: usize) -> usize
+    ensures { λ r. ⌜ Frame 10 at (now (out .entry)) (now (out .exit)) r ⌝ }
+{
+    if !enabled {
+        return put_text(b"  tach off", out, at);
+    }
+    if count == 0 {
+        return put_text(b"   count 0", out, at);
+    }
+    put_either(count == 2047, b"   stopped", b" bad count", out, at)
+}
+
+// The speed of a fan that gives two pulses a revolution. Bits 7:5 of the dynamics byte are the range code.
+fn put_speed(channel: Channel, out: &mut [u8], at: usize) -> usize
+    ensures { λ r. ⌜ Frame 20 at (now (out .entry)) (now (out .exit)) r ⌝ }
+{
+    let speed = speed::speed(range_code(channel.dynamics) as u32, 2, channel.count as u32);
+    match speed {
+        Speed::Rpm(rpm) => put_form(b"  ########", &[rpm], out, at),
+        Speed::Refused => put_no_speed(tachometer_enabled(channel.config), channel.count, out, at),
+    }
+}
+
+// Tenths of a percent of full speed: 511 is the whole, and any other duty counts 512ths.
+fn percent_tenths(duty: u16) -> u32 {
+    if duty == 511 {
+        return 1000;
+    }
+    duty as u32 * 1000 / 512
+}
+
+fn put_duties(number: u32, channel: Channel, duty: u16, out: &mut [u8], at: usize) -> usize
+    ensures { λ r. ⌜ Frame 115 at (now (out .entry)) (now (out .exit)) r ⌝ }
+{
+    let tenths = percent_tenths(duty);
+    put_form(
+        b"      #   ##### #####   ##### #####.#%  #####",
+        &[
+            number,
+            channel.target as u32,
+            channel.ramp as u32,
+            duty as u32,
+            tenths / 10,
+            tenths % 10,
+            channel.count as u32,
+        ],
+        out,
+        at,
+    )
+}
+
+fn put_channel(
+    number: u32,
+    conditions: Conditions,
+    channel: Channel,
+    out: &mut [u8],
+    at: usize,
+) -> usize
+    ensures { λ r. ⌜ Frame 158 at (now (out .entry)) (now (out .exit)) r ⌝ }
+{
+    let duty = output_duty(conditions, channel);
+    let duties = put_duties(number, channel, duty, out, at);
+    let speed = put_speed(channel, out, duties);
+    let queue = put_form(b"    ###", &[channel.queue as u32], out, speed);
+    put_either(channel.fault, b"  yes\n", b"  no\n", out, queue)
+}
+
+fn put_channels(state: State, out: &mut [u8], at: usize) -> usize
+    ensures { λ r. ⌜ Frame 1071 at (now (out .entry)) (now (out .exit)) r ⌝ }
+{
+    let conditions = conditions(state);
+    let channels = state.channels;
+    let mut next = put_text(
+        b"channels, with the speed at two pulses a revolution:\nchannel  target  ramp  output  percent  count       rpm  queue  fault\n",
+        out,
+        at,
+    );
+    for i in 0..6u32 {
+        let channel = channels[i as usize];
+        next = put_channel(i + 1, conditions, channel, out, next);
+    }
+    next
+}
+
+// The whole state: the timer, the pins, and a table of the channels.
+pub fn put_show(state: State, out: &mut [u8], at: usize) -> usize
+    ensures { λ r. ⌜ Frame 1343 at (now (out .entry)) (now (out .exit)) r ⌝ }
+{
+    let conditions = conditions(state);
+    let timer = put_timer(state, out, at);
+    let pins = put_pins(state, conditions.standby, out, timer);
+    put_channels(state, out, pins)
+}

@@ -1,0 +1,71 @@
+-- `row` meets its contract. Assumes nothing.
+use borrow.Author.Needs.{needs}
+use Prim.Native.Nat.{_+_, _-_}
+use mathlib.Core.Path.{_≡_, subst}
+use native.Mathlib.Omega.{arith}
+use Rattle.table.specs.Table.{commands}
+use Rattle.table.specs.Rows.{RowAt}
+use Rattle.table.proofs.Rows.{many, call-row, state-row, string-row}
+use Rattle.table.proofs.row.Statement.{statement}
+use Rattle.table.proofs.row.Tie as tie
+
+calls-requires : tie.Need-calls-requires
+calls-requires c κs = tt
+
+mul-result : tie.Need-mul-result
+mul-result c = search needs
+
+array-copy-out-result : tie.Need-array-copy-out-result
+array-copy-out-result c = search needs
+
+returns : tie.Need-returns
+returns c =
+    let start = c .before .before .before in
+    call-row (c .before .calls .result) _ (start .args .place) (c .before .calls .ensures) (omega arith)
+
+states-requires : tie.Need-states-requires
+states-requires c κs = tt
+
+mul-result-2 : tie.Need-mul-result-2
+mul-result-2 c = search needs
+
+array-copy-out-result-2 : tie.Need-array-copy-out-result-2
+array-copy-out-result-2 c = search needs
+
+returns-2 : tie.Need-returns-2
+returns-2 c =
+    let start = c .before .before .before .before in
+    let place : 6 + (start .args .place - 6) ≡ start .args .place = omega arith in
+    subst (RowAt _ commands) place (state-row (c .before .states .result) _ (start .args .place - 6) (c .before .states .ensures) (omega arith))
+
+order-strings-requires : tie.Need-order-strings-requires
+order-strings-requires c κs = tt
+
+mul-result-3 : tie.Need-mul-result-3
+mul-result-3 c = record { fits = omega (arith, many) }
+
+array-copy-out-result-3 : tie.Need-array-copy-out-result-3
+array-copy-out-result-3 c = omega (arith, many)
+
+returns-3 : tie.Need-returns-3
+returns-3 c =
+    let start = c .before .before .before .before in
+    let place : 6 + (7 + (start .args .place - 13)) ≡ start .args .place = omega arith in
+    subst (RowAt _ commands) place (string-row (c .before .order-strings .result) _ (start .args .place - 13) (c .before .order-strings .ensures) (omega (arith, many)))
+
+pub row-spec : {M : Type 1} → statement M
+row-spec =
+    tie.close
+    (tie.spec
+    calls-requires
+    mul-result
+    array-copy-out-result
+    returns
+    states-requires
+    mul-result-2
+    array-copy-out-result-2
+    returns-2
+    order-strings-requires
+    mul-result-3
+    array-copy-out-result-3
+    returns-3)

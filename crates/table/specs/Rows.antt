@@ -1,0 +1,85 @@
+-- The table's rows as the source holds them, and what a search gives.
+use Prim.Native.Nat.{ℕ, _≤_, _<_}
+use mathlib.Core.Path.{_≡_}
+use mathlib.Core.Bool.{Bool, true, _&&_}
+use mathlib.Core.List.{List, map}
+use lib.ListN.{length, getD, take}
+use lib.Dec.{leb, ltb}
+use Rattle.rules.specs.Basics.{if_then_else_}
+use Rattle.table.specs.declared.Asks.{Asks}
+use Rattle.table.specs.declared.Parameter.{Parameter}
+use Rattle.table.specs.declared.Parameter.the-variants.{Number, Bytes}
+use Rattle.table.specs.declared.Recorded.{Recorded}
+use Rattle.table.specs.declared.Command.{Command}
+use Rattle.table.specs.declared.Found.{Found}
+use Rattle.table.specs.Table.{Row, commands, largest, nameOf, stateNumbers, Named, known, unknown}
+
+-- a parameter as the source's row holds it: the largest that a number may be; of bytes, one that no number may be
+abbrev pub parameterBy : ℕ → Parameter
+parameterBy slot = if ltb largest slot then Bytes else Number slot
+
+-- a command's parameters: those in its row, which has room for four, or the numbers of a state
+abbrev pub parametersBy : ℕ → List ℕ → List Parameter
+parametersBy count slots = if leb count 4 then map (λ slot. parameterBy slot) (take count slots) else stateNumbers
+
+abbrev pub listedIn : Command → List Parameter
+listedIn command = parametersBy (command .count) (command .slots)
+
+-- what a row says, in the source and in the table
+pub record Described : Type 0 where
+  pub usage : List ℕ
+  pub name : List ℕ
+  pub asks : Asks
+  pub recorded : Recorded
+  pub parameters : List Parameter
+  pub count : ℕ
+  pub within : Bool
+
+abbrev pub described : Command → Described
+described command =
+    record {
+      usage = take (command .long) (command .usage);
+      name = take (command .name) (command .usage);
+      asks = command .asks;
+      recorded = command .recorded;
+      parameters = listedIn command;
+      count = command .count;
+      within =
+          leb (command .name) (length (command .usage))
+          && (leb (command .long) (length (command .usage)) && leb (command .count) (length stateNumbers));
+    }
+
+abbrev pub asked : Row → Described
+asked row =
+    record {
+      usage = row .usage;
+      name = nameOf row;
+      asks = row .asks;
+      recorded = row .recorded;
+      parameters = row .parameters;
+      count = length (row .parameters);
+      within = true;
+    }
+
+-- the source's rows are the table's
+abbrev pub Describe : List Command → List Row → Type 0
+Describe source rows = map described source ≡ map asked rows
+
+-- a row of the source is the one at a place of the table
+pub record RowAt (command : Command) (rows : List Row) (i : ℕ) : Type 0 where
+  pub row : Row
+  pub stands : getD rows i row ≡ row
+  pub same : described command ≡ asked row
+
+-- a row of the source is one of the table, as far as a line's parameters need it
+pub record Is (command : Command) (row : Row) : Type 0 where
+  pub asks : command .asks ≡ row .asks
+  pub recorded : command .recorded ≡ row .recorded
+  pub parameters : listedIn command ≡ row .parameters
+  pub count : command .count ≡ length (row .parameters)
+  pub few : command .count ≤ length stateNumbers
+
+-- what a search gives
+abbrev pub FoundAs : Named → Found → Type 0
+FoundAs unknown found = length commands ≤ found .place
+FoundAs (known i row) found = (found .place ≡ i) × (i < length commands) × Is (found .row) row

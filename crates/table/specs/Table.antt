@@ -1,0 +1,135 @@
+-- The table of the commands: "| Line | Answer |".
+use Prim.Native.Nat.{ℕ, _+_}
+use Prim.Native.Char.{code}
+use Prim.Native.String.{String, [] as end, _∷_ as more}
+use mathlib.Core.Bool.{Bool, true, false, _&&_}
+use mathlib.Core.List.{List, [], _∷_, _++_, map}
+use lib.ListN.{getD, take}
+use lib.Dec.{eqb}
+use Rattle.rules.specs.Basics.{if_then_else_}
+use Rattle.text.specs.Words.{runOf}
+use Rattle.table.specs.declared.Verb.{Verb}
+use Rattle.table.specs.declared.Verb.the-variants.{Start, Write, Read, Ticks, Tach, Pin, Cabin, FanFail, Speed, Dump, Load, Show, Chart, Run, Decode, Help}
+use Rattle.table.specs.declared.Asks.{Asks}
+use Rattle.table.specs.declared.Asks.the-variants.{For, Record}
+use Rattle.table.specs.declared.Parameter.{Parameter}
+use Rattle.table.specs.declared.Parameter.the-variants.{Number, Bytes}
+use Rattle.table.specs.declared.Kind.{Kind}
+use Rattle.table.specs.declared.Kind.the-variants as kind
+use Rattle.table.specs.declared.Recorded.{Recorded}
+use Rattle.table.specs.declared.Recorded.the-variants.{As, Not}
+use Rattle.image.specs.Image.{limits}
+
+-- a text as its bytes
+abbrev pub ascii : String → List ℕ
+ascii end = []
+ascii (more c text) = code c ∷ ascii text
+
+-- a line of the table: how it is written, what it asks for, the kind that the call has in order strings, and the parameters that follow
+pub record Row : Type 0 where
+  pub usage : List ℕ
+  pub asks : Asks
+  pub recorded : Recorded
+  pub parameters : List Parameter
+
+abbrev row : String → Verb → List Parameter → Row
+row usage verb parameters = record { usage = ascii usage; asks = For verb; recorded = Not; parameters = parameters }
+
+abbrev rowOfKind : Kind → String → Verb → List Parameter → Row
+rowOfKind kind usage verb parameters = record { usage = ascii usage; asks = For verb; recorded = As kind; parameters = parameters }
+
+-- a call follows, with the words that it has
+abbrev rowOfRecord : String → Row
+rowOfRecord usage = record { usage = ascii usage; asks = Record; recorded = Not; parameters = [] }
+
+-- "from 0 to 4,294,967,295"
+abbrev pub largest : ℕ
+largest = 4_294_967_295
+
+abbrev pub any : Parameter
+any = Number largest
+
+-- the numbers of a state, each up to what the state can hold
+unfoldable pub stateNumbers : List Parameter
+stateNumbers = map (λ most. Number most) limits
+
+-- the calls that start and drive the device
+abbrev pub callRows : List Row
+callRows =
+    row "start WATCHDOG SPINUP TARGET FREQUENCY" Start (any ∷ any ∷ any ∷ Number 255 ∷ [])
+    ∷ rowOfKind kind.Write "write ADDRESS BYTE" Write (any ∷ Number 255 ∷ [])
+    ∷ rowOfKind kind.Read "read ADDRESS" Read (any ∷ [])
+    ∷ rowOfKind kind.Ticks "ticks N" Ticks (any ∷ [])
+    ∷ rowOfKind kind.Tachometer "tach CHANNEL COUNT" Tach (any ∷ any ∷ [])
+    ∷ rowOfKind kind.Pin "pin LEVEL" Pin (Number 1 ∷ [])
+    ∷ []
+
+-- what is asked of a state
+abbrev pub stateRows : List Row
+stateRows =
+    row "cabin" Cabin []
+    ∷ row "fanfail" FanFail []
+    ∷ row "speed RANGE PULSES COUNT" Speed (any ∷ any ∷ any ∷ [])
+    ∷ row "dump" Dump []
+    ∷ row "load NUMBERS" Load stateNumbers
+    ∷ row "show" Show []
+    ∷ row "chart TICKS" Chart (any ∷ [])
+    ∷ []
+
+-- order strings, and help
+abbrev pub stringRows : List Row
+stringRows =
+    row "run STRING ALLOWANCE ROOM" Run (Bytes ∷ any ∷ Number 2_048 ∷ [])
+    ∷ rowOfRecord "encode CALL"
+    ∷ row "decode STRING" Decode (Bytes ∷ [])
+    ∷ row "help" Help []
+    ∷ []
+
+unfoldable pub commands : List Row
+commands = callRows ++ (stateRows ++ stringRows)
+
+-- how many bytes an answer has at most
+abbrev pub longestOf : Verb → ℕ
+longestOf Start = 11
+longestOf Write = 11
+longestOf Read = 22
+longestOf Ticks = 11
+longestOf Tach = 11
+longestOf Pin = 11
+longestOf Cabin = 158
+longestOf FanFail = 44
+longestOf Speed = 22
+longestOf Dump = 748
+longestOf Load = 3
+longestOf Show = 1343
+longestOf Chart = 1431
+longestOf Run = 4130
+longestOf Decode = 43079
+longestOf Help = 1350
+
+-- the word that a command begins with
+abbrev pub nameOf : Row → List ℕ
+nameOf row = take (runOf false (row .usage)) (row .usage)
+
+-- two words are the same, byte by byte
+unfoldable pub sameBytes : List ℕ → List ℕ → Bool
+sameBytes [] [] = true
+sameBytes [] (b ∷ second) = false
+sameBytes (a ∷ first) [] = false
+sameBytes (a ∷ first) (b ∷ second) = eqb a b && sameBytes first second
+
+-- the row that a word names, and its place in the table
+pub data Named : Type 0 where
+  known : ℕ → Row → Named
+  unknown : Named
+
+unfoldable pub namedAmong : List Row → ℕ → List ℕ → Named
+namedAmong [] i word = unknown
+namedAmong (row ∷ rows) i word = if sameBytes word (nameOf row) then known i row else namedAmong rows (i + 1) word
+
+unfoldable pub namedBy : List ℕ → Named
+namedBy word = namedAmong commands 0 word
+
+-- how the command at a place is written
+unfoldable pub usageAt : ℕ → List ℕ
+usageAt i = getD (map (λ row. row .usage) commands) i []
