@@ -28,7 +28,10 @@ returns c = gives-wrong _ _ _ (no-word _ (found-none (c .before .before .next-wo
 
 -- a word that was found lies in the line
 within : (c : tie.After-known-told) →
-    (c .before .first .given .0 .0 < c .before .first .given .0 .1 .0) × (c .before .first .given .0 .1 .0 ≤ length (c .before .before .before .before .before .before .before .args .line .now))
+    let args = c .before .before .before .before .before .before .before .args in
+    let begin = c .before .first .given .0 .0 in
+    let end = c .before .first .given .0 .1 .0 in
+    (begin < end) × (end ≤ length (args .line .now))
 within c = found-within (c .before .before .before .next-word .ensures) (c .before .first .given .1)
 
 sub-find : tie.Need-sub-find
@@ -49,7 +52,7 @@ first-word : (c : tie.After-known-told) →
     let line = args .line .now in
     let begin = c .before .first .given .0 .0 in
     let end = c .before .first .given .0 .1 .0 in
-    wordsOf (line) ≡ take (end - begin) (drop begin line) ∷ wordsOf (drop end line)
+    wordsOf line ≡ take (end - begin) (drop begin line) ∷ wordsOf (drop end line)
 first-word c = found-first (c .before .before .before .next-word .ensures) (c .before .first .given .1)
 
 row : (c : tie.After-find) → c .find .result .place < length commands →

@@ -28,7 +28,10 @@ returns c = gives-wrong _ _ _ (no-record _ _ (found-none (c .before .before .nex
 
 -- a word that was found lies in the line
 within : (c : tie.After-known-told) →
-    (c .before .next .given .0 .0 < c .before .next .given .0 .1 .0) × (c .before .next .given .0 .1 .0 ≤ length (c .before .before .before .before .before .before .before .args .line .now))
+    let args = c .before .before .before .before .before .before .before .args in
+    let begin = c .before .next .given .0 .0 in
+    let end = c .before .next .given .0 .1 .0 in
+    (begin < end) × (end ≤ length (args .line .now))
 within c = found-within (c .before .before .before .next-word .ensures) (c .before .next .given .1)
 
 sub-find : tie.Need-sub-find

@@ -193,7 +193,9 @@ same-length-13 : tie.Need-same-length-13
 same-length-13 c = search needs
 
 returns-13 : tie.Need-returns-13
-returns-13 c = rw (c .before .before .before .before .before .before .before .enum-told13 .given .1) (shows (c .replied2 .ensures) (c .before .before .before .put-chart .ensures))
+returns-13 c =
+    let drawn = c .before .before .before in
+    rw (drawn .before .before .before .before .enum-told13 .given .1) (shows (c .replied2 .ensures) (drawn .put-chart .ensures))
 
 same-length-14 : tie.Need-same-length-14
 same-length-14 c = search needs
@@ -205,7 +207,9 @@ same-length-15 : tie.Need-same-length-15
 same-length-15 c = search needs
 
 returns-15 : tie.Need-returns-15
-returns-15 c = rw (c .before .before .before .before .before .before .before .enum-told15 .given .1) (shows (c .replied3 .ensures) (frame-looser (omega arith) (c .before .before .before .put-decoded .ensures)))
+returns-15 c =
+    let told = c .before .before .before in
+    rw (told .before .before .before .before .enum-told15 .given .1) (shows (c .replied3 .ensures) (frame-looser (omega arith) (told .put-decoded .ensures)))
 
 same-length-16 : tie.Need-same-length-16
 same-length-16 c = search needs
