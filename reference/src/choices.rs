@@ -125,6 +125,18 @@ pub fn count_about(random: &mut Random, channel: &Channel) -> u32 {
     ])
 }
 
+/// The counts beside which the answer to a speed changes, and the largest.
+pub const SPEED_EDGES: [u32; 6] = [0, 1, 2046, 2047, 2048, u32::MAX];
+
+/// A count for a speed: mostly at an edge.
+pub fn count_of_speed(random: &mut Random) -> u32 {
+    let edge = random.pick(&SPEED_EDGES);
+    let between = random.between(1, 2046);
+    // The low eleven bits of these are 2,047, 0, 1 and 2,047.
+    let wide = random.pick(&[4095, 65_536, 65_537, 67_583]);
+    random.weighted(&[(12, edge), (6, between), (3, wide)])
+}
+
 /// At the ends of what one byte to five bytes of an order string can hold.
 pub fn number_of_some_length(random: &mut Random) -> u32 {
     let lengths = [1 << 7, 1 << 14, 1 << 21, 1 << 28];

@@ -1,7 +1,7 @@
 //! The console's language: a call as a word with numbers, and the answer line that the model
 //! expects for it.
 
-use crate::model::{self, Billionths, Channel, State, ACCEPTED};
+use crate::model::{self, Billionths, Channel, Speed, State, ACCEPTED, SPEED_REFUSED};
 use crate::orders::{self, Record, KINDS};
 use crate::text::{byte_pairs, Word};
 
@@ -142,10 +142,7 @@ impl Call {
                 range_code,
                 pulses,
                 count,
-            } => {
-                let (refusal, speed) = model::speed(range_code, pulses, count);
-                (refusal, format!("{refusal} {speed}"))
-            }
+            } => speed_answer(model::speed(range_code, pulses, count)),
             Call::Dump => (ACCEPTED, decimal_words(&state_numbers(state))),
             Call::Load(given) => {
                 *state = given;
@@ -165,6 +162,16 @@ impl Call {
 fn changed(state: &mut State, (refusal, next): (u32, State)) -> (u32, String) {
     *state = next;
     (refusal, refusal.to_string())
+}
+
+/// "`speed` answers refusal and speed as before, or `0 stopped`, or `0 too fast`."
+fn speed_answer(speed: Speed) -> (u32, String) {
+    match speed {
+        Speed::Rpm(rpm) => (ACCEPTED, format!("{ACCEPTED} {rpm}")),
+        Speed::Stopped => (ACCEPTED, format!("{ACCEPTED} stopped")),
+        Speed::TooFast => (ACCEPTED, format!("{ACCEPTED} too fast")),
+        Speed::Refused => (SPEED_REFUSED, format!("{SPEED_REFUSED} 0")),
+    }
 }
 
 fn cabin_answer(state: &State) -> (u32, String) {
@@ -306,6 +313,9 @@ mod tests {
         };
         assert_eq!(answer(speed(2, 2, 1000), &mut state), "0 983");
         assert_eq!(answer(speed(2, 0, 1000), &mut state), "6 0");
+        assert_eq!(answer(speed(2, 2, 2047), &mut state), "0 stopped");
+        assert_eq!(answer(speed(2, 2, 0), &mut state), "0 too fast");
+        assert_eq!(answer(speed(8, 2, 2047), &mut state), "6 0");
     }
 
     #[test]

@@ -14,7 +14,7 @@ pub const NOT_CARRIED: u32 = 2;
 pub const READ_ONLY: u32 = 3;
 pub const CONFIGURATION: u32 = 4;
 pub const NO_SUCH_CHANNEL: u32 = 5;
-pub const NO_SPEED: u32 = 6;
+pub const SPEED_REFUSED: u32 = 6;
 pub const PIN_SET_VALUE: u32 = 7;
 
 // "00h: bit 7 standby, 6 reset (reads 0), 5 bus timeout, 3 oscillator, 2:1 watchdog code,
@@ -684,16 +684,32 @@ pub fn fan_fail(state: &State) -> (u32, bool, u32, u32) {
     (ACCEPTED, failed > 0, failed, lowest)
 }
 
-/// Gives refusal and speed. "Speed: floor(491,520 × range / (pulses × count)), range 1, 2, 4, 8,
-/// 16, 32, 32, 32 for codes 0 to 7."
-pub fn speed(range_code: u32, pulses: u32, count: u32) -> (u32, u32) {
-    let asked =
-        (0..=7).contains(&range_code) && (1..=4).contains(&pulses) && (1..=2046).contains(&count);
-    if !asked {
-        return (NO_SPEED, 0);
+/// What the speed calculation answers.
+#[derive(Clone, Copy, Debug, PartialEq, Eq)]
+pub enum Speed {
+    Rpm(u32),
+    Stopped,
+    TooFast,
+    Refused,
+}
+
+/// "Speed: floor(491,520 × range / (pulses × count)), range 1, 2, 4, 8, 16, 32, 32, 32 for codes 0
+/// to 7." "The speed calculation shall answer stopped for count 2,047 and too fast for count 0.
+/// [..] 6 stays for codes, pulses and counts above 2,047, tested first."
+pub fn speed(range_code: u32, pulses: u32, count: u32) -> Speed {
+    let ranges = [1, 2, 4, 8, 16, 32, 32, 32];
+    let Some(range) = ranges.get(range_code as usize) else {
+        return Speed::Refused;
+    };
+    if !(1..=4).contains(&pulses) {
+        return Speed::Refused;
     }
-    let range = [1, 2, 4, 8, 16, 32, 32, 32][range_code as usize];
-    (ACCEPTED, 491_520 * range / (pulses * count))
+    match count {
+        0 => Speed::TooFast,
+        1..=2046 => Speed::Rpm(491_520 * range / (pulses * count)),
+        2047 => Speed::Stopped,
+        2048.. => Speed::Refused,
+    }
 }
 
 #[cfg(test)]

@@ -63,8 +63,8 @@ impl Scenario {
         let drills: [(u32, Drill); 7] = [
             (98, Scenario::traffic_drill),
             (14, Scenario::start_drill),
-            (24, Scenario::load_drill),
-            (30, Scenario::flaw_drill),
+            (26, Scenario::load_drill),
+            (34, Scenario::flaw_drill),
             (8, Scenario::speed_drill),
             (8, Scenario::encode_drill),
             (200, Scenario::string_drill),
@@ -326,7 +326,7 @@ impl Scenario {
     }
 
     fn speed_drill(&mut self) {
-        for _ in 0..self.random.between(2, 6) {
+        for _ in 0..self.random.between(8, 16) {
             self.one_speed();
         }
     }
@@ -605,16 +605,13 @@ impl Scenario {
     fn one_speed(&mut self) {
         let range_code = self.random.below(8);
         let pulses = self.random.between(1, 4);
-        let count = u32::from(random_count(&mut self.random));
         // The wrong ones are next to the range, or have a low byte or word in it.
         let call = Call::Speed {
             range_code: self.random.weighted(&[(12, range_code), (1, 8), (1, 258)]),
             pulses: self
                 .random
                 .weighted(&[(18, pulses), (1, 0), (1, 5), (1, 257)]),
-            count: self
-                .random
-                .weighted(&[(18, count), (1, 2048), (1, 65_537), (1, u32::MAX)]),
+            count: choices::count_of_speed(&mut self.random),
         };
         self.make(call);
     }
@@ -680,6 +677,8 @@ mod tests {
         assert!(seen.expiries >= 200 && seen.expiries_ended >= 200);
         assert!(seen.spin_ups_begun >= 400);
         assert!(seen.clock_wraps >= 100 && seen.resets >= 40);
+        assert!(seen.speeds_stopped >= 30 && seen.speeds_too_fast >= 30);
+        assert!(seen.speed_edges.iter().all(|&times| times >= 30));
         assert!(seen.sound_loads >= 200 && seen.flawed_loads >= 4 * FLAWS.len());
     }
 

@@ -2,6 +2,7 @@
 
 use std::fmt;
 
+use crate::choices::SPEED_EDGES;
 use crate::console::Call;
 use crate::model::{deciding_line, judged, sound, Line, State, ACCEPTED, CHANNELS, RESET};
 use crate::orders::{self, Reader, Run};
@@ -11,6 +12,10 @@ pub struct Seen {
     pub calls: usize,
     /// By refusal number, 0 for accepted; dumps, loads, runs and encodings are not counted here.
     pub answers: [usize; 8],
+    pub speeds_stopped: usize,
+    pub speeds_too_fast: usize,
+    /// Speeds asked for at each of the edges, refused ones too.
+    pub speed_edges: [usize; SPEED_EDGES.len()],
     pub encodings: usize,
     pub runs: SeenRuns,
     // From here on, what single calls did and what the records did that runs took.
@@ -70,10 +75,22 @@ impl Seen {
                 self.answers[refusal as usize] += 1;
                 self.fan_fail_asserted += usize::from(answer.starts_with("0 1"));
             }
+            Call::Speed { count, .. } => {
+                self.answers[refusal as usize] += 1;
+                self.note_speed(count, answer);
+            }
             _ => {
                 self.answers[refusal as usize] += 1;
                 self.note_effects(call, before, refusal, after);
             }
+        }
+    }
+
+    fn note_speed(&mut self, count: u32, answer: &str) {
+        self.speeds_stopped += usize::from(answer == "0 stopped");
+        self.speeds_too_fast += usize::from(answer == "0 too fast");
+        for (edge, times) in SPEED_EDGES.iter().zip(&mut self.speed_edges) {
+            *times += usize::from(count == *edge);
         }
     }
 
@@ -202,6 +219,11 @@ impl fmt::Display for Seen {
     fn fmt(&self, out: &mut fmt::Formatter) -> fmt::Result {
         for (number, times) in self.answers.iter().enumerate() {
             writeln!(out, "  answered {number}: {times}")?;
+        }
+        let (stopped, too_fast) = (self.speeds_stopped, self.speeds_too_fast);
+        writeln!(out, "  speeds stopped: {stopped}, too fast: {too_fast}")?;
+        for (edge, times) in SPEED_EDGES.iter().zip(self.speed_edges) {
+            writeln!(out, "  speeds at count {edge}: {times}")?;
         }
         writeln!(out, "  encodings: {}", self.encodings)?;
         write!(out, "{}", self.runs)?;

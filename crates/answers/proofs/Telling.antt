@@ -39,3 +39,7 @@ reading-length r six = omega (arith, parts-length (r .seconds ∷ r .shares))
 pub cabin-length : (refusal : ℕ) (r : Reading) → length (readingText r) ≤ readingMost → length (cabinText refusal r) ≤ cabinMost
 unfolding cabinText
 cabin-length refusal r h = rw (length-append, length-append) (omega (arith, digits-length 1 refusal))
+
+pub replies-looser : {text before after : List ℕ} {next : Hand} {most more at : ℕ} {reply : Reply} →
+    most ≤ more → Replies most text next at before after reply → Replies more text next at before after reply
+replies-looser h r = record { hand = r .hand; told = r .told; within = omega (arith, h, r .within) }

@@ -7,6 +7,7 @@ use lib.ListN.{length}
 use Rattle.rules.specs.declared.State.{State}
 use Rattle.rules.specs.declared.Answer.{Answer}
 use Rattle.rules.specs.declared.Speed.{Speed}
+use Rattle.rules.specs.declared.Speed.the-variants.{Rpm, Stopped, TooFast, Refused}
 use Rattle.rules.specs.declared.Reading.{Reading}
 use Rattle.rules.specs.declared.Call.{Call}
 use Rattle.rules.specs.declared.Call.the-variants.{Write, Read, Ticks, Tachometer, Pin}
@@ -16,6 +17,7 @@ use Rattle.rules.specs.Make.{made}
 use Rattle.rules.specs.FanFail.{fanFailOf}
 use Rattle.rules.specs.Reading.{readingOf}
 use Rattle.rules.specs.Speed.{speedOf, speedRefusal, speedValue}
+use Rattle.text.specs.Ascii.{ascii}
 use Rattle.text.specs.Put.{Put}
 use Rattle.text.specs.Decimal.{decimalOf}
 use Rattle.image.specs.Image.{numberCount, stateNumbers, number, byteOf, stateFrom}
@@ -71,9 +73,20 @@ cabinText refusal r = decimalOf refusal ++ (readingText r ++ (10 ∷ []))
 abbrev pub cabinMost : ℕ
 cabinMost = 10 + readingMost + 1
 
+-- "refusal, speed"
+abbrev speedNumbers : Speed → List ℕ
+speedNumbers answer = answerLine (speedRefusal answer ∷ speedValue answer ∷ [])
+
+-- K2: "`speed` answers refusal and speed as before, or `0 stopped`, or `0 too fast`"
+unfoldable pub speedLine : Speed → List ℕ
+speedLine (Rpm speed) = speedNumbers (Rpm speed)
+speedLine Stopped = ascii "0 stopped\n"
+speedLine TooFast = ascii "0 too fast\n"
+speedLine Refused = speedNumbers Refused
+
 -- "`ok`"
 abbrev pub okLine : List ℕ
-okLine = 111 ∷ 107 ∷ 10 ∷ []
+okLine = ascii "ok\n"
 
 module _ (hand : Hand) (at : ℕ) (before after : List ℕ) (reply : Reply) where
   abbrev pub RepliesNumbers : List ℕ → State → Type 0
@@ -98,9 +111,8 @@ module _ (hand : Hand) (at : ℕ) (before after : List ℕ) (reply : Reply) wher
   abbrev pub TellsCabin : Type 0
   TellsCabin = let a = readingOf (hand .state) in Replies cabinMost (cabinText (a .refusal) (a .reading)) (withState hand (a .state)) at before after reply
 
-  -- "refusal, speed"
   abbrev pub TellsSpeed : List ℕ → Type 0
-  TellsSpeed v = RepliesNumbers (speedRefusal (speedBy v) ∷ speedValue (speedBy v) ∷ []) (hand .state)
+  TellsSpeed v = Replies (lineMost 2) (speedLine (speedBy v)) hand at before after reply
 
   -- "the state's numbers"; "`ok`; the state in hand is made of these numbers"
   abbrev pub Dumps : Type 0

@@ -4,8 +4,7 @@ ghost use Prim.Native.Nat.{_≤_};
 ghost use mathlib.Core.List.{_∷_};
 ghost use lib.ListN.{length};
 ghost use Rattle.text.specs.Put.{Put};
-ghost use Rattle.rules.specs.Speed.{speedRefusal, speedValue};
-ghost use Rattle.answers.specs.Replies.{withState, RepliesNumbers, Makes, MakesRead, Starts, TellsFanFail, TellsCabin, TellsSpeed, Dumps, Loads, writeCall, readCall, ticksCall, tachCall, pinCall, startBy, speedBy, readingText, readingMost, cabinText, cabinMost};
+ghost use Rattle.answers.specs.Replies.{withState, Replies, RepliesNumbers, Makes, MakesRead, Starts, TellsFanFail, TellsCabin, TellsSpeed, Dumps, Loads, writeCall, readCall, ticksCall, tachCall, pinCall, startBy, speedBy, readingText, readingMost, cabinText, cabinMost};
 use crate::line::put_line;
 use crate::line::put_part;
 use crate::line::put_parts;
@@ -14,6 +13,7 @@ use image::flag;
 use image::numbers_of;
 use image::state_of;
 use image::value;
+use rules::ACCEPTED;
 use rules::Answer;
 use rules::Call;
 use rules::Reading;
@@ -63,6 +63,14 @@ fn numbers_reply(
     let next = with_state(hand, state);
     let end = put_line(first, others, out, at);
     replied(next, end)
+}
+
+// A fixed text, and what is in hand after it.
+fn text_reply(hand: Hand, text: &[u8], out: &mut [u8], at: usize) -> Reply
+    ensures { λ r. ⌜ Replies (length (now (text .entry))) (now (text .entry)) hand at (now (out .entry)) (now (out .exit)) r ⌝ }
+{
+    let end = put(text, out, at);
+    replied(hand, end)
 }
 
 // The refusal of a call.
@@ -160,32 +168,16 @@ fn speed_by(values: &[u32]) -> Speed
     speed::speed(value(values, 0), value(values, 1), value(values, 2))
 }
 
-// The refusal and the value of a speed.
-fn speed_refusal(speed: Speed) -> u32
-    ensures { λ r. ⌜ r ≡ speedRefusal speed ⌝ }
-{
-    match speed {
-        Speed::Rpm(_) => 0,
-        Speed::Refused => SPEED_OUT_OF_RANGE as u32,
-    }
-}
-
-fn speed_value(speed: Speed) -> u32
-    ensures { λ r. ⌜ r ≡ speedValue speed ⌝ }
-{
-    match speed {
-        Speed::Rpm(rpm) => rpm,
-        Speed::Refused => 0,
-    }
-}
-
 pub fn speed_reply(hand: Hand, values: &[u32], out: &mut [u8], at: usize) -> Reply
     ensures { λ r. ⌜ TellsSpeed hand at (now (out .entry)) (now (out .exit)) r (now (values .entry)) ⌝ }
 {
     let speed = speed_by(values);
-    let refusal = speed_refusal(speed);
-    let value = speed_value(speed);
-    numbers_reply(hand, hand.state, refusal, &[value], out, at)
+    match speed {
+        Speed::Rpm(rpm) => numbers_reply(hand, hand.state, ACCEPTED as u32, &[rpm], out, at),
+        Speed::Stopped => text_reply(hand, b"0 stopped\n", out, at),
+        Speed::TooFast => text_reply(hand, b"0 too fast\n", out, at),
+        Speed::Refused => numbers_reply(hand, hand.state, SPEED_OUT_OF_RANGE as u32, &[0], out, at),
+    }
 }
 
 pub fn dump_reply(hand: Hand, out: &mut [u8], at: usize) -> Reply
@@ -198,9 +190,7 @@ pub fn dump_reply(hand: Hand, out: &mut [u8], at: usize) -> Reply
 pub fn load_reply(hand: Hand, values: &[u32], out: &mut [u8], at: usize) -> Reply
     ensures { λ r. ⌜ Loads hand at (now (out .entry)) (now (out .exit)) r (now (values .entry)) ⌝ }
 {
-    let next = with_state(hand, state_of(values));
-    let end = put(b"ok\n", out, at);
-    replied(next, end)
+    text_reply(with_state(hand, state_of(values)), b"ok\n", out, at)
 }
 
 // What was read: seconds and shares, each after a space.

@@ -18,7 +18,7 @@ pub use Rattle.rules.specs.declared.Answer.{Answer}
 pub use Rattle.rules.specs.declared.ReadAnswer.{ReadAnswer}
 pub use Rattle.rules.specs.declared.FanFailAnswer.{FanFailAnswer}
 pub use Rattle.rules.specs.declared.Speed.{Speed}
-pub use Rattle.rules.specs.declared.Speed.the-variants.{Rpm, Refused}
+pub use Rattle.rules.specs.declared.Speed.the-variants.{Rpm, Stopped, TooFast, Refused}
 pub use Rattle.rules.specs.declared.ReadingAnswer.{ReadingAnswer}
 pub use Rattle.rules.specs.declared.Call.{Call}
 pub use Rattle.rules.specs.declared.Call.the-variants.{Write, Read, Ticks, Tachometer, Pin}

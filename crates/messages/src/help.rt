@@ -3,7 +3,7 @@ ghost use Rattle.text.specs.Frame.{Frame};
 use form::put_text;
 
 pub fn put_help(out: &mut [u8], at: usize) -> usize
-    ensures { λ r. ⌜ Frame 1350 at (now (out .entry)) (now (out .exit)) r ⌝ }
+    ensures { λ r. ⌜ Frame 1379 at (now (out .entry)) (now (out .exit)) r ⌝ }
 {
     put_text(
         b"A command, and what it answers. Numbers are decimal, or hexadecimal after 0x.
@@ -16,7 +16,7 @@ tach CHANNEL COUNT                      refusal
 pin LEVEL                               refusal; 0 is low, 1 is high
 cabin                                   refusal, seconds, six shares
 fanfail                                 refusal, asserted, how many, lowest channel
-speed RANGE PULSES COUNT                refusal, speed
+speed RANGE PULSES COUNT                refusal, and the speed, stopped or too fast
 dump                                    the state's 68 numbers
 load NUMBERS                            ok; the state is made of these 68 numbers
 show                                    the state for a person to read

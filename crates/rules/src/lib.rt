@@ -168,7 +168,12 @@ pub struct FanFailAnswer {
 
 // What the speed calculation gives back.
 pub enum Speed {
+    // Revolutions a minute.
     Rpm(u32),
+    // The count ran out: the fan stands still, or turns too slowly for its range.
+    Stopped,
+    // The count is 0: the fan turns too fast for its range.
+    TooFast,
     Refused,
 }
 

@@ -105,27 +105,24 @@ fn put_pins(state: State, standby: bool, out: &mut [u8], at: usize) -> usize
     )
 }
 
-// Why a count gives no speed.
-fn put_no_speed(enabled: bool, count: u16, out: &mut [u8], at: usize) -> usize
+// Why there is no speed: the tachometer is off, or else what the calculation answered.
+fn put_no_speed(enabled: bool, why: &[u8; 10], out: &mut [u8], at: usize) -> usize
     ensures { λ r. ⌜ Frame 10 at (now (out .entry)) (now (out .exit)) r ⌝ }
 {
-    if !enabled {
-        return put_text(b"  tach off", out, at);
-    }
-    if count == 0 {
-        return put_text(b"   count 0", out, at);
-    }
-    put_either(count == 2047, b"   stopped", b" bad count", out, at)
+    put_either(enabled, why, b"  tach off", out, at)
 }
 
-// The speed of a fan that gives two pulses a revolution. Bits 7:5 of the dynamics byte are the range code.
+// The speed of a fan that gives two pulses a revolution. A range code has three bits, so it is the count that can be refused.
 fn put_speed(channel: Channel, out: &mut [u8], at: usize) -> usize
     ensures { λ r. ⌜ Frame 20 at (now (out .entry)) (now (out .exit)) r ⌝ }
 {
+    let enabled = tachometer_enabled(channel.config);
     let speed = speed::speed(range_code(channel.dynamics) as u32, 2, channel.count as u32);
     match speed {
         Speed::Rpm(rpm) => put_form(b"  ########", &[rpm], out, at),
-        Speed::Refused => put_no_speed(tachometer_enabled(channel.config), channel.count, out, at),
+        Speed::Stopped => put_no_speed(enabled, b"   stopped", out, at),
+        Speed::TooFast => put_no_speed(enabled, b"  too fast", out, at),
+        Speed::Refused => put_no_speed(enabled, b" bad count", out, at),
     }
 }
 

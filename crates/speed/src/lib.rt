@@ -1,4 +1,4 @@
-// The speed calculation: revolutions a minute from a tachometer count.
+// The speed calculation: revolutions a minute from a tachometer count, or that the fan has stopped or is too fast for its range.
 ghost use mathlib.Core.Path.{_≡_};
 ghost use Prim.Native.Nat.{_<_, _/_};
 ghost use Rattle.rules.specs.Speed.{speedRefused, speedOf, SpeedTold};
@@ -17,7 +17,7 @@ fn divide(dividend: u32, divisor: u32) -> u32
 fn refused(range: u32, pulses: u32, count: u32) -> bool
     ensures { λ r. ⌜ r ≡ speedRefused range pulses count ⌝ }
 {
-    (7 < range) | !((1 <= pulses) & (pulses <= 4)) | !((1 <= count) & (count <= 2046))
+    (7 < range) | !((1 <= pulses) & (pulses <= 4)) | (2047 < count)
 }
 
 // The speed of a fan with so many pulses a revolution, by its channel's range code and its tachometer count.
@@ -27,6 +27,12 @@ pub fn speed(range: u32, pulses: u32, count: u32) -> Speed
 {
     if refused(range, pulses, count) {
         return Speed::Refused;
+    }
+    if count == 2047 {
+        return Speed::Stopped;
+    }
+    if count == 0 {
+        return Speed::TooFast;
     }
     let factor = RANGES[range as usize];
     Speed::Rpm(divide(491520 * factor, pulses * count))

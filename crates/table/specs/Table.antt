@@ -1,12 +1,12 @@
 -- The table of the commands: "| Line | Answer |".
 use Prim.Native.Nat.{ℕ, _+_}
-use Prim.Native.Char.{code}
-use Prim.Native.String.{String, [] as end, _∷_ as more}
+use Prim.Native.String.{String}
 use mathlib.Core.Bool.{Bool, true, false, _&&_}
 use mathlib.Core.List.{List, [], _∷_, _++_, map}
 use lib.ListN.{getD, take}
 use lib.Dec.{eqb}
 use Rattle.rules.specs.Basics.{if_then_else_}
+use Rattle.text.specs.Ascii.{ascii}
 use Rattle.text.specs.Words.{runOf}
 use Rattle.table.specs.declared.Verb.{Verb}
 use Rattle.table.specs.declared.Verb.the-variants.{Start, Write, Read, Ticks, Tach, Pin, Cabin, FanFail, Speed, Dump, Load, Show, Chart, Run, Decode, Help}
@@ -19,11 +19,6 @@ use Rattle.table.specs.declared.Kind.the-variants as kind
 use Rattle.table.specs.declared.Recorded.{Recorded}
 use Rattle.table.specs.declared.Recorded.the-variants.{As, Not}
 use Rattle.image.specs.Image.{limits}
-
--- a text as its bytes
-abbrev pub ascii : String → List ℕ
-ascii end = []
-ascii (more c text) = code c ∷ ascii text
 
 -- a line of the table: how it is written, what it asks for, the kind that the call has in order strings, and the parameters that follow
 pub record Row : Type 0 where
@@ -105,7 +100,7 @@ longestOf Show = 1343
 longestOf Chart = 1431
 longestOf Run = 4130
 longestOf Decode = 43079
-longestOf Help = 1350
+longestOf Help = 1379
 
 -- the word that a command begins with
 abbrev pub nameOf : Row → List ℕ

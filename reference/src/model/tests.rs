@@ -143,7 +143,7 @@ fn fault_with_the_eighth_result() {
 
 #[test]
 fn speed_of_the_trial() {
-    assert_eq!(speed(2, 2, 1000), (ACCEPTED, 983));
+    assert_eq!(speed(2, 2, 1000), Speed::Rpm(983));
 }
 
 #[test]
@@ -664,18 +664,32 @@ fn cabin_reading_is_exact() {
 
 #[test]
 fn speeds_and_their_refusals() {
-    assert_eq!(speed(0, 1, 1), (ACCEPTED, 491_520));
-    assert_eq!(speed(7, 1, 1), (ACCEPTED, 15_728_640));
-    assert_eq!(speed(5, 4, 2046), (ACCEPTED, 1921));
+    assert_eq!(speed(0, 1, 1), Speed::Rpm(491_520));
+    assert_eq!(speed(7, 1, 1), Speed::Rpm(15_728_640));
+    assert_eq!(speed(5, 4, 2046), Speed::Rpm(1921));
     for (range_code, pulses, count) in [
         (8, 1, 1),
         (0, 0, 1),
         (0, 5, 1),
-        (0, 1, 0),
-        (0, 1, 2047),
+        (0, 1, 2048),
+        (0, 1, u32::MAX),
         (u32::MAX, u32::MAX, u32::MAX),
     ] {
-        assert_eq!(speed(range_code, pulses, count), (NO_SPEED, 0));
+        assert_eq!(speed(range_code, pulses, count), Speed::Refused);
+    }
+}
+
+#[test]
+fn no_speed_has_two_words_after_the_refusals() {
+    for range_code in 0..8 {
+        for pulses in 1..=4 {
+            assert_eq!(speed(range_code, pulses, 2047), Speed::Stopped);
+            assert_eq!(speed(range_code, pulses, 0), Speed::TooFast);
+        }
+    }
+    for (range_code, pulses) in [(8, 1), (u32::MAX, 4), (0, 0), (7, 5), (8, 5)] {
+        assert_eq!(speed(range_code, pulses, 2047), Speed::Refused);
+        assert_eq!(speed(range_code, pulses, 0), Speed::Refused);
     }
 }
 
