@@ -105,7 +105,7 @@ pub fn pin_set_value(random: &mut Random, wrong: bool, highest: u32) -> u32 {
     }
 }
 
-/// A tachometer count, mostly at or beside the channel's target count.
+/// A tachometer count, mostly at or beside the channel's target count, or at or beside 2,047.
 pub fn count_about(random: &mut Random, channel: &Channel) -> u32 {
     let target = u32::from(channel.target_count);
     let any = random.any();
@@ -114,9 +114,10 @@ pub fn count_about(random: &mut Random, channel: &Channel) -> u32 {
         (6, target),
         (12, target + 1),
         (1, 0),
-        (2, 2046),
-        (3, 2047),
-        (2, 2048),
+        (4, 2045),
+        (5, 2046),
+        (6, 2047),
+        (3, 2048),
         (2, 5000),
         (2, 65_536 + target),
         (1, u32::MAX),

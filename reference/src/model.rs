@@ -615,13 +615,19 @@ pub fn queue_length(code: u8) -> u8 {
     [1, 2, 4, 6][usize::from(code)]
 }
 
-/// "Judged bad when the stored count exceeds the target count: the channel's queue count goes up,
-/// to at most 6, and if it is then at least the queue length (codes 0 to 3: 1, 2, 4, 6) the fault
-/// bit is set. Judged good: queue count 0, fault bit kept."
+/// "Judged bad when the stored count exceeds the target count"; K3: "a stored count of 2,047 is bad
+/// for any target."
+pub fn bad(channel: &Channel) -> bool {
+    channel.count > channel.target_count || channel.count == FULL_COUNT
+}
+
+/// Judged bad, "the channel's queue count goes up, to at most 6, and if it is then at least the
+/// queue length (codes 0 to 3: 1, 2, 4, 6) the fault bit is set. Judged good: queue count 0, fault
+/// bit kept."
 fn judge(state: &mut State, index: usize) {
     let length = queue_length(state.queue_code());
     let channel = &mut state.channels[index];
-    if channel.count > channel.target_count {
+    if bad(channel) {
         channel.queue = (channel.queue + 1).min(LONGEST_QUEUE);
         if channel.queue >= length {
             state.faults |= 1 << index;

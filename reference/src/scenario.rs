@@ -12,7 +12,7 @@ use crate::orders::{self, Record};
 use crate::random::Random;
 use crate::seen::Seen;
 use crate::states::{
-    flawed_state, random_count, random_duty, sound_state, unusual_sound_state, FLAWS,
+    flawed_state, random_duty, random_target_count, sound_state, unusual_sound_state, FLAWS,
 };
 use crate::strings;
 use crate::text::{call_line, skipped_line};
@@ -193,19 +193,19 @@ impl Scenario {
         let index = self.some_channel();
         self.ready_for_results(index);
         for _ in 0..self.random.between(4, 14) {
-            match self.random.below(18) {
-                0..=5 => self.result(index),
-                6..=8 => self.bad_results(index),
-                9 => self.make(Call::FanFail),
-                10 => self.make(Call::Read { address: 0x11 }),
-                11 => {
+            match self.random.below(20) {
+                0..=6 => self.result(index),
+                7..=9 => self.bad_results(index),
+                10..=11 => self.make(Call::FanFail),
+                12 => self.make(Call::Read { address: 0x11 }),
+                13 => {
                     let address = 0x18 + self.random.below(24);
                     self.make(Call::Read { address });
                 }
-                12 => self.result_somewhere(),
-                13 => self.write_byte_for(0x14),
-                14 => self.write_byte_for(0x13),
-                15..=16 => self.write_byte_for(0x41 + 2 * index),
+                14 => self.result_somewhere(),
+                15 => self.write_byte_for(0x14),
+                16 => self.write_byte_for(0x13),
+                17..=18 => self.write_byte_for(0x41 + 2 * index),
                 _ => self.pass_ticks(),
             }
         }
@@ -553,7 +553,7 @@ impl Scenario {
     }
 
     fn write_target_count(&mut self, index: u32) {
-        let word = random_count(&mut self.random) << 5 | self.random.below(32) as u16;
+        let word = random_target_count(&mut self.random) << 5 | self.random.below(32) as u16;
         self.write_word(0x50 + 2 * index, word);
     }
 
@@ -672,7 +672,9 @@ mod tests {
         assert!(seen.answers.iter().all(|&times| times >= 30));
         assert!(seen.results.iter().all(|&times| times >= 100));
         assert!(seen.lines.iter().all(|&times| times >= 200));
+        assert!(seen.near_full.iter().flatten().all(|&times| times >= 20));
         assert!(seen.faults_raised >= 150 && seen.faults_cleared >= 100);
+        assert!(seen.faults_at_full_target >= 30);
         assert!(seen.fan_fail_asserted >= 80);
         assert!(seen.expiries >= 200 && seen.expiries_ended >= 200);
         assert!(seen.spin_ups_begun >= 400);

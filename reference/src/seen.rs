@@ -4,8 +4,13 @@ use std::fmt;
 
 use crate::choices::SPEED_EDGES;
 use crate::console::Call;
-use crate::model::{deciding_line, judged, sound, Line, State, ACCEPTED, CHANNELS, RESET};
+use crate::model::{
+    bad, deciding_line, judged, sound, Line, State, ACCEPTED, CHANNELS, FULL_COUNT, RESET,
+};
 use crate::orders::{self, Reader, Run};
+
+/// The lowest of the counts beside 2,047.
+const NEAR_FULL: u16 = FULL_COUNT - 2;
 
 #[derive(Default)]
 pub struct Seen {
@@ -21,7 +26,10 @@ pub struct Seen {
     // From here on, what single calls did and what the records did that runs took.
     /// Tachometer results that were not stored, not judged, judged good, judged bad.
     pub results: [usize; 4],
+    /// Judged results by target count and then by stored count, both from `NEAR_FULL` to 2,047.
+    pub near_full: [[usize; 3]; 3],
     pub faults_raised: usize,
+    pub faults_at_full_target: usize,
     pub faults_cleared: usize,
     pub fan_fail_asserted: usize,
     pub expiries: usize,
@@ -124,10 +132,25 @@ impl Seen {
             }
             Call::Read { .. } if refusal == ACCEPTED => self.note_access(before),
             Call::Tachometer { channel, .. } if refusal == ACCEPTED => {
-                self.results[kind_of_result(before, after, channel as usize - 1)] += 1;
-                self.faults_raised += gained(before.faults, after.faults);
+                self.note_result(before, after, channel as usize - 1);
             }
             _ => {}
+        }
+    }
+
+    fn note_result(&mut self, before: &State, after: &State, index: usize) {
+        let kind = kind_of_result(before, after, index);
+        let raised = gained(before.faults, after.faults);
+        let channel = &after.channels[index];
+        self.results[kind] += 1;
+        self.faults_raised += raised;
+        if channel.target_count == FULL_COUNT {
+            self.faults_at_full_target += raised;
+        }
+        let (target, count) = (channel.target_count, channel.count);
+        if kind >= GOOD && target.min(count) >= NEAR_FULL {
+            let place = |number: u16| usize::from(number - NEAR_FULL);
+            self.near_full[place(target)][place(count)] += 1;
         }
     }
 
@@ -172,16 +195,21 @@ fn gained(before: u8, after: u8) -> usize {
     (after & !before).count_ones() as usize
 }
 
+const NOT_STORED: usize = 0;
+const NOT_JUDGED: usize = 1;
+const GOOD: usize = 2;
+const BAD: usize = 3;
+
 fn kind_of_result(before: &State, after: &State, index: usize) -> usize {
     let channel = &after.channels[index];
     if !channel.tachometer_enabled() {
-        0
+        NOT_STORED
     } else if !judged(before, index) {
-        1
-    } else if channel.count <= channel.target_count {
-        2
+        NOT_JUDGED
+    } else if bad(channel) {
+        BAD
     } else {
-        3
+        GOOD
     }
 }
 
@@ -233,7 +261,19 @@ impl fmt::Display for Seen {
             "  results not stored: {ignored}, not judged: {unjudged}"
         )?;
         writeln!(out, "  results judged good: {good}, bad: {bad}")?;
-        writeln!(out, "  faults raised: {}", self.faults_raised)?;
+        for (target, row) in (NEAR_FULL..).zip(self.near_full) {
+            for (count, times) in (NEAR_FULL..).zip(row) {
+                writeln!(
+                    out,
+                    "  results judged at target {target}, count {count}: {times}"
+                )?;
+            }
+        }
+        let (raised, full) = (self.faults_raised, self.faults_at_full_target);
+        writeln!(
+            out,
+            "  faults raised: {raised}, at target count 2047: {full}"
+        )?;
         writeln!(out, "  faults cleared: {}", self.faults_cleared)?;
         writeln!(out, "  FAN_FAIL asserted: {}", self.fan_fail_asserted)?;
         writeln!(out, "  watchdog expiries: {}", self.expiries)?;

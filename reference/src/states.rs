@@ -63,11 +63,20 @@ pub fn random_duty(random: &mut Random) -> u16 {
     }
 }
 
-pub fn random_count(random: &mut Random) -> u16 {
+fn random_count(random: &mut Random) -> u16 {
     if random.chance(1, 2) {
         random.pick(&[0, 1, 480, 1000, 1023, 1024, 2045, 2046, 2047, 2047])
     } else {
         random.below(2048) as u16
+    }
+}
+
+/// At least every third is at 2,047 or beside it.
+pub fn random_target_count(random: &mut Random) -> u16 {
+    if random.chance(1, 3) {
+        random.pick(&[2045, 2046, 2047, 2047])
+    } else {
+        random_count(random)
     }
 }
 
@@ -95,7 +104,7 @@ fn random_channel(random: &mut Random) -> Channel {
         count: random_count(random),
         ramp: random_duty(random),
         target: random_duty(random),
-        target_count: random_count(random),
+        target_count: random_target_count(random),
         window: random.byte(),
         queue: random.below(7) as u8,
         ..Channel::default()

@@ -2,3 +2,4 @@
 pub mod Queue
 pub mod Elapsed
 pub mod Trials
+pub mod Stopped

@@ -241,7 +241,7 @@ nothing-passes s =
     by-test (validOf s) (λ v. passes s 0 v) (λ v. ap (λ (a : Answer). a .state) (passed-refused s 0 v))
 
 -- a channel that stands at 200, its tachometer enabled, queue code 2
-abbrev steady : State
+abbrev pub steady : State
 steady = example (record { ramp = 200; target = 200; rate = 3; falls = false; spin-up = 0; clock = 0 }) 0x08 0x46
 
 steady-enabled : Enabled steady 0

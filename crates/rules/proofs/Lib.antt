@@ -1,4 +1,5 @@
--- What ties the definitions to the paper: words convert without loss, and the map carries the listed registers.
+-- What ties the definitions to the paper: words convert without loss, the map carries the listed registers, and which results are bad.
 pub mod Tests
 pub mod Words
 pub mod Map
+pub mod Tachometer

@@ -25,9 +25,9 @@ storedCount count = min count 2047
 unfoldable pub judged : Conditions → Channel → Bool
 judged k ch = not (k .standby) && eqb (ch .spin) 0 && (monitorOnly (ch .config) || ltb 0 (outputDuty k ch))
 
--- "Judged bad when the stored count exceeds the target count"
+-- since K3 "a stored count of 2,047 is bad for any target"; any other is "Judged bad when the stored count exceeds the target count"
 unfoldable pub isBad : Channel → ℕ → Bool
-isBad ch stored = ltb (targetCount ch) stored
+isBad ch stored = eqb stored 2047 || ltb (targetCount ch) stored
 
 -- "the channel's queue count goes up, to at most 6, and if it is then at least the queue length .. the fault bit is set"
 abbrev pub badResult : ℕ → ℕ → Results → Results

@@ -37,10 +37,11 @@ fn judged(conditions: Conditions, channel: Channel) -> bool
     !conditions.standby & (channel.spin == 0) & (monitor_only(channel.config) | (0 < duty))
 }
 
+// The count ends at 2,047: a fan that has it stands still, or turns too slowly to be measured.
 fn is_bad(channel: Channel, stored: u16) -> bool
     ensures { λ r. ⌜ r ≡ isBad channel stored ⌝ }
 {
-    channel.target_count < stored
+    (stored == 2047) | (channel.target_count < stored)
 }
 
 fn results(count: u16, queue: u8, fault: bool) -> Results

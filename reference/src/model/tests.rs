@@ -599,12 +599,53 @@ fn a_count_at_the_target_is_good_and_keeps_the_fault() {
     assert_eq!((state.faults, state.channels[0].queue), (1, 1));
     state = with_result(&state, 1, 480);
     assert_eq!((state.faults, state.channels[0].queue), (1, 0));
+}
+
+#[test]
+fn a_count_of_2047_is_bad_for_any_target() {
+    let standing = watched(1);
+    for (target, count, queue) in [
+        (0, 0, 0),
+        (0, 1, 1),
+        (2045, 2045, 0),
+        (2045, 2046, 1),
+        (2046, 2046, 0),
+        (2046, 2047, 1),
+        (2047, 2046, 0),
+        (2047, 2047, 1),
+        (2047, 2048, 1),
+        (2047, u32::MAX, 1),
+    ] {
+        let mut state = standing;
+        state.channels[0].target_count = target;
+        let next = with_result(&state, 1, count);
+        assert_eq!((next.channels[0].queue, next.faults), (queue, 0));
+        assert_eq!(u32::from(next.channels[0].count), count.min(2047));
+    }
+}
+
+#[test]
+fn a_stopped_fan_fails_at_a_target_count_of_2047() {
+    for (code, length) in [(0, 1), (1, 2), (2, 4), (3, 6)] {
+        let mut state = watched(code);
+        state.mask1 = 0x00;
+        state.channels[0].target_count = 2047;
+        for results in 1..=7 {
+            state = with_result(&state, 1, 5000);
+            let (_, asserted, ..) = fan_fail(&state);
+            assert_eq!(asserted, results >= length);
+        }
+    }
+}
+
+#[test]
+fn a_count_of_2047_that_is_not_judged_is_only_stored() {
+    let mut state = watched(0);
     state.channels[0].target_count = 2047;
-    state = with_result(&state, 1, u32::MAX);
-    assert_eq!(
-        (state.channels[0].count, state.channels[0].queue),
-        (2047, 0)
-    );
+    state.channels[0].queue = 3;
+    state.channels[0].ramp = 0;
+    let next = with_result(&state, 1, 2047);
+    assert_eq!((next.channels[0].queue, next.faults), (3, 0));
 }
 
 #[test]
