@@ -1,6 +1,6 @@
 // What the codes of the registers stand for.
 ghost use mathlib.Core.Path.{_≡_};
-ghost use Prim.Native.Nat.{_%_};
+ghost use Prim.Native.Nat.{_%_, _^_, _≤_};
 ghost use Rattle.rules.specs.Time.{watchdogLimit, spinTicks, ratePeriod};
 ghost use Rattle.rules.specs.Tachometer.{queueLength};
 
@@ -10,8 +10,8 @@ const SPIN_TICKS: [u16; 4] = [0, 256, 512, 1024];
 
 const QUEUE_LENGTHS: [u8; 4] = [1, 2, 4, 6];
 
-// The periods of rate codes 1 to 7; code 0 has none, and its entry is not used.
-const PERIODS: [u32; 8] = [1, 1, 2, 4, 8, 16, 32, 64];
+// The periods of rate codes 1 to 7, each by its power of two; code 0 has none, and its entry is not used.
+const PERIOD_SHIFTS: [u32; 8] = [0, 0, 1, 2, 3, 4, 5, 6];
 
 // The idle ticks after which the watchdog expires, 0 where it is off.
 pub fn watchdog_limit(code: u8) -> u16
@@ -43,13 +43,14 @@ pub fn queue_length(code: u8) -> u8
     0
 }
 
-// The ticks from one step of a ramp to the next, of the three bits of a rate code.
-pub fn rate_period(code: u8, doubled: bool) -> u32
-    ensures { λ r. ⌜ r ≡ ratePeriod (code % 8) doubled ⌝ }
+// The ticks from one step of a ramp to the next, of the three bits of a rate code, as the power of two that they are: a shift by so
+// many bits divides by the period.
+pub fn period_shift(code: u8, doubled: bool) -> u32
+    ensures { λ r. ⌜ (2 ^ r ≡ ratePeriod (code % 8) doubled) × (r ≤ 7) ⌝ }
 {
-    let period = PERIODS[(code % 8) as usize];
+    let shift = PERIOD_SHIFTS[(code % 8) as usize];
     if doubled {
-        return 2 * period;
+        return shift + 1;
     }
-    period
+    shift
 }

@@ -53,6 +53,10 @@ const CHANNEL_LIMITS: [u32; CHANNEL_NUMBERS] = [
     255,
 ];
 
+// One in CHANNEL_NUMBERS, as so many in 512 and rounded up. Below the numbers of six channels both give the same whole number, and
+// to divide by 512 is a shift.
+const IN_512: usize = 512 / CHANNEL_NUMBERS + 1;
+
 pub fn limit(i: usize) -> u32
     ensures { λ r. ⌜ r ≡ limitAt i ⌝ }
 {
@@ -60,7 +64,9 @@ pub fn limit(i: usize) -> u32
         return BOX_LIMITS[i];
     }
     if i < STATE_NUMBERS {
-        return CHANNEL_LIMITS[(i - BOX_NUMBERS) % CHANNEL_NUMBERS];
+        let at = i - BOX_NUMBERS;
+        let channel = at * IN_512 / 512;
+        return CHANNEL_LIMITS[at - channel * CHANNEL_NUMBERS];
     }
     0
 }

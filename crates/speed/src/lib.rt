@@ -6,12 +6,28 @@ use rules::Speed;
 
 const RANGES: [u32; 8] = [1, 2, 4, 8, 16, 32, 32, 32];
 
-// The largest dividend is 491,520 × 32 = 15,728,640, which is below 2^24 = 16,777,216.
+// The bits of a quotient, and so the turns of `divide`. The largest dividend is 491,520 × 32 = 15,728,640, which is below
+// 2^24 = 16,777,216, and a divisor is at least 1, so no quotient is larger than that.
+const QUOTIENT_BITS: u32 = 24;
+
+// Long division in base two, by shifts and subtraction, for a processor that has no divide instruction. Each turn gives one bit of the
+// quotient, from the top: 24 turns, whatever the numbers. The bit is 1 where the divisor, moved up to it, goes into what is left of the
+// dividend; that is asked with what is left moved down, since the divisor could lose bits on the way up.
 fn divide(dividend: u32, divisor: u32) -> u32
     requires { ⌜ (dividend < 16777216) × (0 < divisor) ⌝ }
     ensures { λ r. ⌜ r ≡ dividend / divisor ⌝ }
 {
-    dividend / divisor
+    let mut quotient: u32 = 0;
+    let mut rest = dividend;
+    let mut bit = QUOTIENT_BITS;
+    while 0 < bit {
+        bit -= 1;
+        if divisor <= rest >> bit {
+            rest -= divisor << bit;
+            quotient += 1 << bit;
+        }
+    }
+    quotient
 }
 
 fn refused(range: u32, pulses: u32, count: u32) -> bool

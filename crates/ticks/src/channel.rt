@@ -1,11 +1,11 @@
 // Many ticks of one channel.
 ghost use mathlib.Core.Path.{_≡_};
 ghost use mathlib.Core.Bool.{false};
-ghost use Prim.Native.Nat.{_<_, _^_};
+ghost use Prim.Native.Nat.{_<_, _≤_, _^_};
 ghost use Rattle.rules.specs.Tick.{periodOf, spinUpDue};
 ghost use Rattle.laws.proofs.Ramp.{approach};
 ghost use Rattle.laws.proofs.ChannelTicks.{channelTicks};
-use device::codes::rate_period;
+use device::codes::period_shift;
 use device::codes::spin_ticks;
 use device::duty::wanted;
 use registers::fields::asymmetric;
@@ -19,11 +19,12 @@ fn spin_up_due(channel: Channel) -> bool
     (channel.ramp == 0) & (0 < wanted(channel)) & (0 < spin_code(channel.config))
 }
 
-fn period_of(channel: Channel) -> u32
-    ensures { λ r. ⌜ r ≡ periodOf channel ⌝ }
+// The power of two that a channel's period is.
+fn shift_of(channel: Channel) -> u32
+    ensures { λ r. ⌜ (2 ^ r ≡ periodOf channel) × (r ≤ 7) ⌝ }
 {
     let falling = wanted(channel) < channel.ramp;
-    rate_period(
+    period_shift(
         rate_code(channel.dynamics),
         asymmetric(channel.dynamics) & falling,
     )
@@ -59,8 +60,8 @@ fn ramped(channel: Channel, clock: u64, ticks: u32) -> Channel
         next.ramp = goal;
         return next;
     }
-    let period = period_of(channel) as u64;
-    let steps = (clock + ticks as u64) / period - clock / period;
+    let shift = shift_of(channel);
+    let steps = ((clock + ticks as u64) >> shift) - (clock >> shift);
     next.ramp = approach(channel.ramp, goal, steps);
     next
 }

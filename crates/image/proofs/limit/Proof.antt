@@ -15,8 +15,17 @@ array-read-result c = search needs
 returns : tie.Need-returns
 returns c = limit-in-box (c .before .args .i) (search needs)
 
+mul-channel : tie.Need-mul-channel
+mul-channel c = search needs
+
 mul-result-2 : tie.Need-mul-result-2
 mul-result-2 c = search needs
+
+sub-result : tie.Need-sub-result
+sub-result c = search needs
+
+mul-result-3 : tie.Need-mul-result-3
+mul-result-3 c = search needs
 
 array-read-result-2 : tie.Need-array-read-result-2
 array-read-result-2 c = search needs
@@ -36,7 +45,10 @@ limit-spec =
     mul-result
     array-read-result
     returns
+    mul-channel
     mul-result-2
+    sub-result
+    mul-result-3
     array-read-result-2
     returns-2
     returns-3)

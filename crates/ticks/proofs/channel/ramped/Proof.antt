@@ -1,7 +1,8 @@
 -- `channel::ramped` meets its contract: as many steps as multiples of the period are passed. Assumes nothing.
-use Rattle.laws.proofs.ChannelTicks.{channelTicks, period-pos, ticks-at-once, ticks-ramp}
+use Rattle.laws.proofs.ChannelTicks.{channelTicks, ticks-at-once, ticks-ramp}
 use Rattle.laws.proofs.Ramp.{multiples-from}
 use native.Mathlib.Omega.{arith}
+use lib.Pow.{pow-pos}
 use mathlib.Core.Bool.{false}
 use mathlib.Core.Path.{_≡_, sym, _∙_, ap}
 use Prim.Native.Nat.{suc, _-_}
@@ -28,23 +29,26 @@ returns-2 c =
     ∙ ticks-at-once (start .args .clock) (start .args .channel) (start .pre .0) (start .pre .1) (start .args .ticks - 1)
     (rw (c .before .before .rate-code .ensures) at (c .before .if1 .taken))))
 
-period-of-requires : tie.Need-period-of-requires
-period-of-requires c κs = tt
-
-cast-period : tie.Need-cast-period
-cast-period c = search needs
+shift-of-requires : tie.Need-shift-of-requires
+shift-of-requires c κs = tt
 
 add-steps : tie.Need-add-steps
 add-steps c = search needs
 
-div-steps : tie.Need-div-steps
-div-steps c = rw (c .period-of .ensures) (period-pos (c .before .before .before .before .args .channel))
+cast-steps : tie.Need-cast-steps
+cast-steps c = search needs
 
-div-steps-2 : tie.Need-div-steps-2
-div-steps-2 c = rw (c .period-of .ensures) (period-pos (c .before .before .before .before .args .channel))
+shr-steps : tie.Need-shr-steps
+shr-steps c = omega (arith, c .shift-of .ensures .1)
+
+cast-steps-2 : tie.Need-cast-steps-2
+cast-steps-2 c = search needs
+
+shr-steps-2 : tie.Need-shr-steps-2
+shr-steps-2 c = omega (arith, c .shift-of .ensures .1)
 
 sub-steps : tie.Need-sub-steps
-sub-steps c = rw (c .period-of .ensures) (multiples-from _ (period-pos (c .before .before .before .before .args .channel)) _ _)
+sub-steps c = multiples-from _ (pow-pos (c .shift-of .result)) _ _
 
 approach-requires : tie.Need-approach-requires
 approach-requires c κs = tt
@@ -52,7 +56,7 @@ approach-requires c κs = tt
 returns-3 : tie.Need-returns-3
 returns-3 c =
     let start = c .before .before .before .before .before in
-    rw (c .approach .ensures, c .before .period-of .ensures, c .before .before .before .before .wanted .ensures)
+    rw (c .approach .ensures, c .before .shift-of .ensures .0, c .before .before .before .before .wanted .ensures)
     (sym (ticks-ramp (start .args .clock) (start .args .channel) (start .pre .0) (start .pre .1) (start .args .ticks)
     (λ z. c .before .before .if1 .left (c .before .before .before .rate-code .ensures ∙ z))))
 
@@ -64,11 +68,12 @@ ramped-spec =
     rate-code-requires
     returns
     returns-2
-    period-of-requires
-    cast-period
+    shift-of-requires
     add-steps
-    div-steps
-    div-steps-2
+    cast-steps
+    shr-steps
+    cast-steps-2
+    shr-steps-2
     sub-steps
     approach-requires
     returns-3)
