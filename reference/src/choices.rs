@@ -1,6 +1,8 @@
 //! What a scenario's calls are made with: addresses, bytes, counts and spans that lie where the
 //! paper draws a line, and some that lie anywhere. Only inputs are chosen here, no answers.
 
+pub mod galley;
+
 use crate::model::{
     carried, period, spin_up_ticks, watchdog_limit, Channel, State, CHANNELS, MONITOR_ONLY,
 };

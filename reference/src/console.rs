@@ -1,6 +1,10 @@
 //! The console's language: a call as a word with numbers, and the answer line that the model
 //! expects for it.
 
+mod galley;
+
+pub use galley::GalleyCall;
+
 use crate::model::{self, Billionths, Channel, Speed, State, ACCEPTED, SPEED_REFUSED};
 use crate::orders::{self, Record, KINDS};
 use crate::text::{byte_pairs, Word};

@@ -3,6 +3,7 @@
 
 mod choices;
 mod console;
+mod galley;
 mod model;
 mod orders;
 mod random;
@@ -92,22 +93,22 @@ mod tests {
 
     #[test]
     fn four_good_arguments_make_an_order() {
-        let good = order("7 20000 in out").ok().unwrap();
-        assert_eq!((good.seed, good.calls), (7, 20_000));
+        let good = order("7 30000 in out").ok().unwrap();
+        assert_eq!((good.seed, good.calls), (7, 30_000));
         assert_eq!((good.stdin.as_str(), good.stdout.as_str()), ("in", "out"));
     }
 
     #[test]
     fn bad_arguments_are_told() {
         for words in [
-            "7 20000 in",
-            "7 20000 in out more",
-            "x 20000 in out",
-            "-1 20000 in out",
+            "7 30000 in",
+            "7 30000 in out more",
+            "x 30000 in out",
+            "-1 30000 in out",
             "7 0 in out",
             "7 many in out",
             "7 10000001 in out",
-            "7 20000 same same",
+            "7 30000 same same",
         ] {
             assert!(order(words).is_err(), "{words}");
         }

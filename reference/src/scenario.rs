@@ -1,10 +1,13 @@
 //! Random scenarios: lines for the console and the answers that the model expects. A scenario is a
 //! row of short drills, each about one part of the paper, all on the one state in hand.
 
+mod galley;
+
 use std::mem;
 
 use crate::choices;
-use crate::console::Call;
+use crate::console::{Call, GalleyCall};
+use crate::galley::{Galley, UPPER_LIMITS};
 use crate::model::{
     queue_length, Channel, State, ACCEPTED, CHANNELS, FULL_DUTY, MONITOR_ONLY, TACHOMETER_ENABLED,
 };
@@ -15,15 +18,18 @@ use crate::states::{
     flawed_state, random_duty, random_target_count, sound_state, unusual_sound_state, FLAWS,
 };
 use crate::strings;
-use crate::text::{call_line, skipped_line};
+use crate::text::{call_line, skipped_line, Word};
 
 type Drill = fn(&mut Scenario);
 
 pub struct Scenario {
     random: Random,
     state: State,
+    galley: Galley,
     /// The next of the flaws, which are taken in turn.
     next_flaw: usize,
+    /// The next of the limits between the galley's rows, which are taken in turn.
+    next_limit: usize,
     /// While a string is packed, its records: calls become records then, and no lines.
     packed: Option<Vec<Record>>,
     pub input: String,
@@ -32,24 +38,29 @@ pub struct Scenario {
 }
 
 /// A scenario of at least `calls` answered lines. Until its first `start` or `load` the state in
-/// hand is the one that a refused start gives.
+/// hand is the one that a refused start gives, and until its first `gfresh` or `gload` the galley
+/// state is the one that a refused fresh call gives.
 pub fn scenario(seed: u64, calls: usize) -> Scenario {
     let mut made = Scenario {
         random: Random::new(seed),
         state: State::default(),
+        galley: Galley::default(),
         next_flaw: (seed % FLAWS.len() as u64) as usize,
+        next_limit: (seed % UPPER_LIMITS.len() as u64) as usize,
         packed: None,
         input: format!("# Scenario of seed {seed}.\n"),
         answers: String::new(),
         seen: Seen::default(),
     };
+    made.try_the_galley();
     made.try_the_state();
-    while made.seen.calls + 3 < calls {
+    while made.seen.calls + 4 < calls {
         made.drill();
     }
     for call in [Call::Cabin, Call::FanFail, Call::Dump] {
         made.make(call);
     }
+    made.make_galley(GalleyCall::Dump);
     if seed % 2 == 1 {
         // "A last line without a line feed counts."
         made.input.truncate(made.input.trim_end().len());
@@ -60,14 +71,15 @@ pub fn scenario(seed: u64, calls: usize) -> Scenario {
 // The drills
 impl Scenario {
     fn drill(&mut self) {
-        let drills: [(u32, Drill); 7] = [
-            (98, Scenario::traffic_drill),
-            (14, Scenario::start_drill),
-            (26, Scenario::load_drill),
-            (34, Scenario::flaw_drill),
-            (8, Scenario::speed_drill),
-            (8, Scenario::encode_drill),
-            (200, Scenario::string_drill),
+        let drills: [(u32, Drill); 8] = [
+            (112, Scenario::traffic_drill),
+            (16, Scenario::start_drill),
+            (28, Scenario::load_drill),
+            (48, Scenario::flaw_drill),
+            (11, Scenario::speed_drill),
+            (13, Scenario::encode_drill),
+            (224, Scenario::string_drill),
+            (96, Scenario::galley_drill),
         ];
         let drill = self.random.weighted(&drills);
         drill(self);
@@ -84,7 +96,7 @@ impl Scenario {
             (16, Scenario::ramp_drill),
             (14, Scenario::spin_up_drill),
             (14, Scenario::watchdog_drill),
-            (20, Scenario::tachometer_drill),
+            (25, Scenario::tachometer_drill),
             (12, Scenario::override_drill),
         ];
         let drill = self.random.weighted(&drills);
@@ -94,11 +106,12 @@ impl Scenario {
     /// Bus traffic of every kind, with some ticks between.
     fn register_drill(&mut self) {
         for _ in 0..self.random.between(4, 12) {
-            match self.random.below(8) {
+            match self.random.below(9) {
                 0..=3 => self.write_something(),
                 4..=5 => self.read_something(),
                 6 => self.pass_ticks(),
-                _ => self.query(),
+                7 => self.query(),
+                _ => self.galley_call(),
             }
         }
     }
@@ -149,7 +162,7 @@ impl Scenario {
         self.write(0x02 + index, others | code << 5);
         self.write_target(index);
         for _ in 0..self.random.between(3, 7) {
-            match self.random.below(12) {
+            match self.random.below(13) {
                 0..=5 => {
                     let channel = self.channel(index);
                     let count = choices::span_of_spin_up(&mut self.random, &channel);
@@ -159,7 +172,8 @@ impl Scenario {
                 7..=8 => self.result(index),
                 9 => self.flip_pin(),
                 10 => self.write_byte_for(0x00),
-                _ => self.write_target(index),
+                11 => self.write_target(index),
+                _ => self.some_sample(),
             }
         }
     }
@@ -170,7 +184,7 @@ impl Scenario {
         self.write(0x00, others | code << 1);
         for _ in 0..self.random.between(2, 6) {
             let index = self.some_channel();
-            match self.random.below(12) {
+            match self.random.below(15) {
                 0..=4 => {
                     let count = choices::span_to_expiry(&mut self.random, &self.state);
                     self.pass(count);
@@ -183,7 +197,8 @@ impl Scenario {
                 8 => self.read_something(),
                 9 => self.query(),
                 10 => self.flip_pin(),
-                _ => self.result(index),
+                11 => self.result(index),
+                _ => self.some_sample(),
             }
         }
     }
@@ -193,7 +208,7 @@ impl Scenario {
         let index = self.some_channel();
         self.ready_for_results(index);
         for _ in 0..self.random.between(4, 14) {
-            match self.random.below(20) {
+            match self.random.below(22) {
                 0..=6 => self.result(index),
                 7..=9 => self.bad_results(index),
                 10..=11 => self.make(Call::FanFail),
@@ -206,7 +221,8 @@ impl Scenario {
                 15 => self.write_byte_for(0x14),
                 16 => self.write_byte_for(0x13),
                 17..=18 => self.write_byte_for(0x41 + 2 * index),
-                _ => self.pass_ticks(),
+                19 => self.pass_ticks(),
+                _ => self.some_sample(),
             }
         }
         if self.random.chance(1, 2) {
@@ -254,6 +270,9 @@ impl Scenario {
             }
             self.result(index);
             self.query();
+            if self.random.chance(1, 2) {
+                self.some_sample();
+            }
             self.read_duty(index);
         }
         if self.random.chance(3, 4) {
@@ -297,9 +316,9 @@ impl Scenario {
         self.next_flaw = (self.next_flaw + 1) % FLAWS.len();
         let (mended, flawed) = flawed_state(&mut self.random, flaw);
         self.make(Call::Load(flawed));
-        let first = self.random.below(10);
+        let first = self.random.below(13);
         for turn in first..first + self.random.between(3, 10) {
-            match turn % 10 {
+            match turn % 13 {
                 0 => self.write_something(),
                 1 => self.read_something(),
                 2 => {
@@ -311,7 +330,10 @@ impl Scenario {
                 5 => self.make(Call::Cabin),
                 6 => self.make(Call::FanFail),
                 7 => self.one_speed(),
-                _ => self.run_records_for(mended),
+                8..=9 => self.run_records_for(mended),
+                10 => self.some_sample(),
+                11 => self.galley_call(),
+                _ => self.galley_flaw_drill(),
             }
         }
         self.make(Call::Dump);
@@ -459,16 +481,25 @@ impl Scenario {
             self.pack(&call);
             return;
         }
-        if self.random.chance(1, 40) {
-            self.input.push_str(&skipped_line(&mut self.random));
-        }
-        let line = call_line(&mut self.random, &call.words());
-        self.input.push_str(&line);
+        self.say(&call.words());
         let before = self.state;
         let (refusal, answer) = call.make(&mut self.state);
         self.seen
             .note(&call, &before, refusal, &answer, &self.state);
-        self.answers.push_str(&answer);
+        self.expect(&answer);
+    }
+
+    /// A call's line, now and then with one before it that answers nothing.
+    fn say(&mut self, words: &[Word]) {
+        if self.random.chance(1, 40) {
+            self.input.push_str(&skipped_line(&mut self.random));
+        }
+        let line = call_line(&mut self.random, words);
+        self.input.push_str(&line);
+    }
+
+    fn expect(&mut self, answer: &str) {
+        self.answers.push_str(answer);
         self.answers.push('\n');
     }
 
@@ -529,13 +560,14 @@ impl Scenario {
     }
 
     fn any_call(&mut self) {
-        match self.random.below(8) {
+        match self.random.below(10) {
             0 => self.write_something(),
             1 => self.read_something(),
             2 => self.result_somewhere(),
             3 => self.query(),
             4 => self.flip_pin(),
-            _ => self.pass_ticks(),
+            5..=7 => self.pass_ticks(),
+            _ => self.galley_call(),
         }
     }
 
@@ -639,6 +671,7 @@ impl Scenario {
 #[cfg(test)]
 mod tests {
     use super::*;
+    use crate::galley::ROWS;
 
     /// The lines of a scenario that answer.
     fn answered(input: &str) -> usize {
@@ -668,7 +701,7 @@ mod tests {
 
     #[test]
     fn a_scenario_of_some_length_meets_every_part_of_the_paper() {
-        let seen = scenario(1, 20_000).seen;
+        let seen = scenario(1, 30_000).seen;
         assert!(seen.answers.iter().all(|&times| times >= 30));
         assert!(seen.results.iter().all(|&times| times >= 100));
         assert!(seen.lines.iter().all(|&times| times >= 200));
@@ -686,9 +719,9 @@ mod tests {
 
     #[test]
     fn a_scenario_of_some_length_runs_strings_of_every_kind() {
-        let seen = scenario(2, 20_000).seen;
+        let seen = scenario(2, 30_000).seen;
         let runs = &seen.runs;
-        assert!(4 * runs.calls() >= seen.calls);
+        assert!(6 * runs.calls() >= seen.calls);
         for refusal in [0, 1, 2, 3, 4, 5, 10, 11, 12, 13, 15] {
             assert!(runs.answers[refusal] >= 80, "{refusal}");
         }
@@ -696,6 +729,41 @@ mod tests {
         assert!(runs.empty_strings >= 50 && runs.hidden_answers >= 200);
         assert!(runs.records >= 20_000 && runs.most_records >= 300);
         assert!(seen.encodings >= 100);
+    }
+
+    #[test]
+    fn a_scenario_of_some_length_meets_every_part_of_the_galley() {
+        let seen = scenario(3, 30_000).seen;
+        let galley = &seen.galley;
+        assert!(6 * galley.calls >= seen.calls);
+        for (name, refusals) in [
+            ("gfresh", &[0, 22][..]),
+            ("gsample", &[0, 1, 20, 22]),
+            ("gspan", &[0, 1, 20, 21]),
+            ("gread", &[0, 1]),
+        ] {
+            for &refusal in refusals {
+                assert!(galley.answers[&(name, refusal)] >= 15, "{name} {refusal}");
+            }
+        }
+        assert!(galley.not_sound.iter().all(|&times| times >= 20));
+        assert!(galley.several_reasons >= 30 && galley.readings_below_zero >= 20);
+        assert!(galley.sound_loads >= 50 && galley.flawed_loads >= 50);
+        let (rows, pins, writes) = (&galley.rows, &galley.pins, &galley.writes);
+        assert!(rows.rose >= 200 && rows.fell >= 200 && rows.fell_and_held >= 100);
+        assert!(rows.held.iter().all(|&times| times >= 100));
+        assert!(rows.above_the_range >= 20 && rows.limits() == UPPER_LIMITS.len());
+        assert_eq!(rows.rows.len(), ROWS);
+        assert!(pins.alerts.iter().all(|&times| times >= 300));
+        assert!(pins.shutdowns.iter().all(|&times| times >= 300));
+        assert!(pins.beside_high.iter().all(|&times| times >= 15));
+        assert!(pins.beside_over.iter().all(|&times| times >= 15));
+        assert!(writes.differing.iter().all(|&times| times >= 12));
+        assert!(writes.tables.iter().all(|&times| times >= 300));
+        assert!(writes.full_bytes >= 50 && writes.bytes_below_full >= 50);
+        assert!(writes.expiries_ended >= 20 && writes.expiries_kept >= 8);
+        assert!(writes.idle_counts_kept >= 20);
+        assert!(writes.faults_cleared >= 80 && writes.faults_kept >= 15);
     }
 
     #[test]

@@ -1,13 +1,17 @@
 //! What a scenario has met: counted so that one can see that it covers the paper.
 
+mod galley;
+
 use std::fmt;
 
 use crate::choices::SPEED_EDGES;
-use crate::console::Call;
+use crate::console::{Call, GalleyCall};
+use crate::galley::Galley;
 use crate::model::{
     bad, deciding_line, judged, sound, Line, State, ACCEPTED, CHANNELS, FULL_COUNT, RESET,
 };
 use crate::orders::{self, Reader, Run};
+use galley::SeenGalley;
 
 /// The lowest of the counts beside 2,047.
 const NEAR_FULL: u16 = FULL_COUNT - 2;
@@ -15,7 +19,8 @@ const NEAR_FULL: u16 = FULL_COUNT - 2;
 #[derive(Default)]
 pub struct Seen {
     pub calls: usize,
-    /// By refusal number, 0 for accepted; dumps, loads, runs and encodings are not counted here.
+    /// By refusal number, 0 for accepted; dumps, loads, runs, encodings and galley calls are not
+    /// counted here.
     pub answers: [usize; 8],
     pub speeds_stopped: usize,
     pub speeds_too_fast: usize,
@@ -23,6 +28,7 @@ pub struct Seen {
     pub speed_edges: [usize; SPEED_EDGES.len()],
     pub encodings: usize,
     pub runs: SeenRuns,
+    pub galley: SeenGalley,
     // From here on, what single calls did and what the records did that runs took.
     /// Tachometer results that were not stored, not judged, judged good, judged bad.
     pub results: [usize; 4],
@@ -92,6 +98,18 @@ impl Seen {
                 self.note_effects(call, before, refusal, after);
             }
         }
+    }
+
+    /// The two states are those before the call.
+    pub fn note_galley(
+        &mut self,
+        call: &GalleyCall,
+        refusal: u32,
+        galley: &Galley,
+        controller: &State,
+    ) {
+        self.calls += 1;
+        self.galley.note(call, refusal, galley, controller);
     }
 
     fn note_speed(&mut self, count: u32, answer: &str) {
@@ -254,7 +272,7 @@ impl fmt::Display for Seen {
             writeln!(out, "  speeds at count {edge}: {times}")?;
         }
         writeln!(out, "  encodings: {}", self.encodings)?;
-        write!(out, "{}", self.runs)?;
+        write!(out, "{}{}", self.runs, self.galley)?;
         let [ignored, unjudged, good, bad] = self.results;
         writeln!(
             out,

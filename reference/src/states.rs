@@ -1,6 +1,8 @@
 //! Random states for `load`: sound ones of every kind, and ones that are not sound by a single
 //! field.
 
+pub mod galley;
+
 use crate::model::{
     watchdog_limit, Channel, State, CHANNELS, FULL_COUNT, FULL_DUTY, LONGEST_QUEUE,
     LONGEST_SPIN_UP, MONITOR_ONLY, RESET, STANDBY, STATUS, TACHOMETER_ENABLED,

@@ -10,6 +10,7 @@ pub const LONGEST_LINE: usize = 4096;
 pub enum Word<'a> {
     Name(&'static str),
     Number(u32),
+    Signed(i32),
     Bytes(&'a [u8]),
 }
 
@@ -36,6 +37,7 @@ fn plain_word(word: &Word) -> String {
     match *word {
         Word::Name(name) => name.to_string(),
         Word::Number(number) => number.to_string(),
+        Word::Signed(number) => number.to_string(),
         Word::Bytes(bytes) => byte_pairs(bytes),
     }
 }
@@ -67,6 +69,7 @@ fn free_word(random: &mut Random, word: &Word) -> String {
     match *word {
         Word::Name(name) => name.to_string(),
         Word::Number(number) => numeral(random, number),
+        Word::Signed(number) => signed_numeral(random, number),
         // "hexadecimal digits in pairs, capital or small"
         Word::Bytes(bytes) if random.chance(1, 2) => byte_pairs(bytes).to_uppercase(),
         Word::Bytes(bytes) => mixed_case(random, &byte_pairs(bytes)),
@@ -124,6 +127,17 @@ fn numeral(random: &mut Random, number: u32) -> String {
         Numeral::ZerosDecimal => format!("{zeros}{number}"),
         Numeral::ZerosHexadecimal => format!("0x{zeros}{number:X}"),
     }
+}
+
+/// "A signed number is decimal with `-` before it where it is negative [..]; hexadecimal has no
+/// sign." Leading zeros are allowed behind the sign too.
+fn signed_numeral(random: &mut Random, number: i32) -> String {
+    let size = number.unsigned_abs();
+    if number >= 0 {
+        return numeral(random, size);
+    }
+    let zeros = "0".repeat(random.pick(&[0, 0, 0, 0, 1, 2, 8]));
+    format!("-{zeros}{size}")
 }
 
 fn mixed_case(random: &mut Random, digits: &str) -> String {
@@ -204,6 +218,31 @@ mod tests {
             let found = words(&line);
             assert_eq!(found[0], "start");
             let read: Option<Vec<u32>> = found[1..].iter().copied().map(value).collect();
+            assert_eq!(read.as_deref(), Some(&numbers[..]), "{line}");
+        }
+    }
+
+    /// The number of a signed numeral, by the console's words.
+    fn signed_value(text: &str) -> Option<i32> {
+        match text.strip_prefix('-') {
+            Some(digits) => digits
+                .parse()
+                .ok()
+                .map(|size: u32| 0i32.wrapping_sub_unsigned(size)),
+            None => value(text)?.try_into().ok(),
+        }
+    }
+
+    #[test]
+    fn a_line_says_its_signed_numbers() {
+        let mut random = Random::new(5);
+        for turn in 0..50_000 {
+            let numbers = [turn, -turn - 1, random.any() as i32, i32::MAX, i32::MIN, 0];
+            let mut said = vec![Word::Name("gfresh")];
+            said.extend(numbers.map(Word::Signed));
+            let line = call_line(&mut random, &said);
+            let found = words(&line);
+            let read: Option<Vec<i32>> = found[1..].iter().copied().map(signed_value).collect();
             assert_eq!(read.as_deref(), Some(&numbers[..]), "{line}");
         }
     }

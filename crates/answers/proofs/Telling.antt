@@ -7,12 +7,13 @@ use lib.ListN.{length, getD, take, drop, length-drop, length-append}
 use lib.Seq.{take-all, drop-cons}
 use Rattle.rules.specs.declared.Reading.{Reading}
 use Rattle.text.specs.Put.{Put}
+use Rattle.text.specs.Frame.{Frame}
 use Rattle.text.proofs.Frames.{put-frame}
 use Rattle.text.proofs.Lengths.{digits-length}
 use Rattle.image.specs.Image.{numberCount, stateNumbers}
 use Rattle.answers.specs.declared.replies.Hand.{Hand}
 use Rattle.answers.specs.declared.replies.Reply.{Reply}
-use Rattle.answers.specs.Replies.{Replies, readingText, readingMost, cabinText, cabinMost, RepliesNumbers, Dumps}
+use Rattle.answers.specs.Replies.{Replies, readingText, readingMost, cabinText, cabinMost, RepliesNumbers, Dumps, Shows}
 use Rattle.answers.proofs.Spacing.{parts-length}
 
 pub tells : {text before after : List ℕ} {given next : Hand} {most at end : ℕ} {reply : Reply} →
@@ -43,3 +44,8 @@ cabin-length refusal r h = rw (length-append, length-append) (omega (arith, digi
 pub replies-looser : {text before after : List ℕ} {next : Hand} {most more at : ℕ} {reply : Reply} →
     most ≤ more → Replies most text next at before after reply → Replies more text next at before after reply
 replies-looser h r = record { hand = r .hand; told = r .told; within = omega (arith, h, r .within) }
+
+-- a text for a person, put by a function that leaves what is in hand
+pub shows : {hand : Hand} {at : ℕ} {before after : List ℕ} {reply : Reply} {most next : ℕ} →
+    (reply .hand ≡ hand) × (reply .at ≡ next) → Frame most at before after next → Shows hand at before after reply most
+shows r f = (r .0, rw (r .1) f)

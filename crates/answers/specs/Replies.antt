@@ -11,6 +11,7 @@ use Rattle.rules.specs.declared.Speed.the-variants.{Rpm, Stopped, TooFast, Refu
 use Rattle.rules.specs.declared.Reading.{Reading}
 use Rattle.rules.specs.declared.Call.{Call}
 use Rattle.rules.specs.declared.Call.the-variants.{Write, Read, Ticks, Tachometer, Pin}
+use Rattle.galley_rules.specs.declared.Galley.{Galley}
 use Rattle.rules.specs.Basics.{flag}
 use Rattle.rules.specs.Start.{startOf}
 use Rattle.rules.specs.Make.{made}
@@ -19,15 +20,19 @@ use Rattle.rules.specs.Reading.{readingOf}
 use Rattle.rules.specs.Speed.{speedOf, speedRefusal, speedValue}
 use Rattle.text.specs.Ascii.{ascii}
 use Rattle.text.specs.Put.{Put}
+use Rattle.text.specs.Frame.{Frame}
 use Rattle.text.specs.Decimal.{decimalOf}
 use Rattle.image.specs.Image.{numberCount, stateNumbers, number, byteOf, stateFrom}
 use Rattle.answers.specs.declared.replies.Hand.{Hand}
 use Rattle.answers.specs.declared.replies.Reply.{Reply}
 use Rattle.answers.specs.Numbers.{answerLine, lineMost, spacedParts}
 
--- what the console has in hand, with another state
+-- what the console has in hand, with another state, or with another galley
 abbrev pub withState : Hand → State → Hand
-withState hand s = record { state = s }
+withState hand s = record { state = s; galley = hand .galley }
+
+abbrev pub withGalley : Hand → Galley → Hand
+withGalley hand g = record { state = hand .state; galley = g }
 
 -- a text of at most so many bytes is put as the answer, and something is in hand after it
 pub record Replies (most : ℕ) (text : List ℕ) (next : Hand) (at : ℕ) (before after : List ℕ) (reply : Reply) : Type 0 where
@@ -120,3 +125,7 @@ module _ (hand : Hand) (at : ℕ) (before after : List ℕ) (reply : Reply) wher
 
   abbrev pub Loads : List ℕ → Type 0
   Loads v = Replies (length okLine) okLine (withState hand (stateFrom v)) at before after reply
+
+  -- "several lines for a person": at most so many bytes, and what is in hand stays
+  abbrev pub Shows : ℕ → Type 0
+  Shows most = (reply .hand ≡ hand) × Frame most at before after (reply .at)

@@ -4,10 +4,11 @@ ghost use Prim.Native.Nat.{_≤_};
 ghost use mathlib.Core.List.{_∷_};
 ghost use lib.ListN.{length};
 ghost use Rattle.text.specs.Put.{Put};
-ghost use Rattle.answers.specs.Replies.{withState, Replies, RepliesNumbers, Makes, MakesRead, Starts, TellsFanFail, TellsCabin, TellsSpeed, Dumps, Loads, writeCall, readCall, ticksCall, tachCall, pinCall, startBy, speedBy, readingText, readingMost, cabinText, cabinMost};
+ghost use Rattle.answers.specs.Replies.{withState, withGalley, Replies, RepliesNumbers, Makes, MakesRead, Starts, TellsFanFail, TellsCabin, TellsSpeed, Dumps, Loads, writeCall, readCall, ticksCall, tachCall, pinCall, startBy, speedBy, readingText, readingMost, cabinText, cabinMost};
 use crate::line::put_line;
 use crate::line::put_part;
 use crate::line::put_parts;
+use galley_rules::Galley;
 use image::byte;
 use image::flag;
 use image::numbers_of;
@@ -27,6 +28,7 @@ use text::put::put;
 // What the console has in hand.
 pub struct Hand {
     pub state: State,
+    pub galley: Galley,
 }
 
 // What is in hand after a line, and the index after its answer.
@@ -49,6 +51,14 @@ pub fn with_state(hand: Hand, state: State) -> Hand
     next
 }
 
+pub fn with_galley(hand: Hand, galley: Galley) -> Hand
+    ensures { λ r. ⌜ r ≡ withGalley hand galley ⌝ }
+{
+    let mut next = hand;
+    next.galley = galley;
+    next
+}
+
 // Numbers on a line, and a state that a call gave back.
 fn numbers_reply(
     hand: Hand,
@@ -66,7 +76,7 @@ fn numbers_reply(
 }
 
 // A fixed text, and what is in hand after it.
-fn text_reply(hand: Hand, text: &[u8], out: &mut [u8], at: usize) -> Reply
+pub fn text_reply(hand: Hand, text: &[u8], out: &mut [u8], at: usize) -> Reply
     ensures { λ r. ⌜ Replies (length (now (text .entry))) (now (text .entry)) hand at (now (out .entry)) (now (out .exit)) r ⌝ }
 {
     let end = put(text, out, at);

@@ -11,7 +11,7 @@ use Rattle.hex.proofs.Pairs.{spelled-half}
 use Rattle.table.specs.declared.Asks.{Asks}
 use Rattle.table.specs.declared.Asks.the-variants.{For, Record}
 use Rattle.table.specs.declared.Parameter.{Parameter}
-use Rattle.table.specs.declared.Parameter.the-variants.{Number, Bytes}
+use Rattle.table.specs.declared.Parameter.the-variants.{Number, Signed, Bytes}
 use Rattle.table.specs.declared.Recorded.{Recorded}
 use Rattle.table.specs.declared.Recorded.the-variants.{As, Not}
 use Rattle.commands.specs.declared.Parsed.{Parsed}
@@ -41,6 +41,7 @@ words-within (byte ∷ line) =
 -- their bytes are at most half as many
 parameter-half : (parameter : Parameter) (word : List ℕ) → 2 * length (bytesAs parameter word) ≤ length word
 parameter-half (Number most) word = omega arith
+parameter-half (Signed most) word = omega arith
 parameter-half Bytes word = spelled-half word
 
 bytes-half : (parameters : List Parameter) (words : List (List ℕ)) → 2 * length (bytesIn parameters words) ≤ total words

@@ -3,3 +3,4 @@ pub mod Taking
 pub mod Parsing
 pub mod Called
 pub mod Halves
+pub mod Signs

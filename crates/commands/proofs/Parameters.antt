@@ -16,10 +16,10 @@ use Rattle.table.specs.Rows.{parameterBy, parametersBy}
 use Rattle.commands.specs.Steps.{parametersAs}
 
 module _ (count : ℕ) (slots : List ℕ) {i : ℕ} (h : i < length (parametersBy count slots)) where
-  module _ (few : count ≤ 4) where
+  module _ (few : count ≤ 6) where
     within : i < length (take count slots)
     within =
-        let below : i < length (map (λ (slot : ℕ). parameterBy slot) (take count slots)) = rw (le-leb count 4 few) at h in
+        let below : i < length (map (λ (slot : ℕ). parameterBy slot) (take count slots)) = rw (le-leb count 6 few) at h in
         rw length-map at below
 
     pub listed-below : (i < count) × (i < length slots)
@@ -27,13 +27,13 @@ module _ (count : ℕ) (slots : List ℕ) {i : ℕ} (h : i < length (parametersB
 
     pub listed-is : parameterBy (getD slots i 0) ≡ getD (parametersBy count slots) i Bytes
     listed-is =
-        rw (le-leb count 4 few, map-at (λ (slot : ℕ). parameterBy slot) (take count slots) i 0 Bytes within, getD-take count slots i 0 (listed-below .0))
+        rw (le-leb count 6 few, map-at (λ (slot : ℕ). parameterBy slot) (take count slots) i 0 Bytes within, getD-take count slots i 0 (listed-below .0))
 
-  pub state-is : 4 < count → Number (getD limits i 0) ≡ getD (parametersBy count slots) i Bytes
+  pub state-is : 6 < count → Number (getD limits i 0) ≡ getD (parametersBy count slots) i Bytes
   unfolding stateNumbers
   state-is many =
-      let below : i < length (map (λ (most : ℕ). Number most) limits) = rw (lt-leb count 4 many) at h in
-      rw (lt-leb count 4 many, map-at (λ (most : ℕ). Number most) limits i 0 Bytes (rw length-map at below))
+      let below : i < length (map (λ (most : ℕ). Number most) limits) = rw (lt-leb count 6 many) at h in
+      rw (lt-leb count 6 many, map-at (λ (most : ℕ). Number most) limits i 0 Bytes (rw length-map at below))
 
 -- a record has as many numbers, each of which may be any
 pub as-many : (wide : Bool) (parameters : List Parameter) → length (parametersAs wide parameters) ≡ length parameters

@@ -4,12 +4,16 @@ use Prim.Native.Nat.{ℕ, _+_, _≤_}
 use mathlib.Core.List.{List, [], _∷_, _++_, map}
 use lib.ListN.{length}
 use lib.Dec.{eqb, ltb}
+use lib.IntN.{pos, negsuc}
 use Rattle.rules.specs.Basics.{if_then_else_}
 use Rattle.text.specs.declared.number.Number.{Number}
 use Rattle.text.specs.declared.number.Number.the-variants as number
+use Rattle.text.specs.declared.signed.Signed.{Signed}
+use Rattle.text.specs.declared.signed.Signed.the-variants as signed
 use Rattle.hex.specs.declared.Spelled.{Spelled}
 use Rattle.hex.specs.declared.Spelled.the-variants as spelled
 use Rattle.text.specs.Number.{numberOf}
+use Rattle.text.specs.Signed.{signedOf, bitsOf}
 use Rattle.hex.specs.Bytes.{bytesOf as spelledBy, countOf, listOf}
 use Rattle.text.specs.Words.{wordsOf}
 use Rattle.strings.specs.declared.Order.{Order}
@@ -23,7 +27,7 @@ use Rattle.table.specs.declared.Kind.the-variants.{Write, Read, Ticks, Tachomet
 use Rattle.table.specs.declared.Recorded.{Recorded}
 use Rattle.table.specs.declared.Recorded.the-variants.{As, Not}
 use Rattle.commands.specs.declared.Reason.{Reason}
-use Rattle.commands.specs.declared.Reason.the-variants.{UnknownCommand, WordCount, NotNumber, TooLarge, NotBytes, NoRecord, LineTooLong}
+use Rattle.commands.specs.declared.Reason.the-variants.{UnknownCommand, WordCount, NotNumber, TooLarge, TooSmall, NotBytes, NoRecord, LineTooLong}
 use Rattle.commands.specs.declared.Value.{Value}
 use Rattle.commands.specs.declared.Value.the-variants.{Taken, Refused}
 use Rattle.commands.specs.declared.Values.{Values}
@@ -40,6 +44,14 @@ valueBy most place (number.Value n) = if ltb most n then Refused (TooLarge place
 valueBy most place number.TooLarge = Refused (TooLarge place most)
 valueBy most place number.NotNumber = Refused (NotNumber place)
 
+-- a signed number, with the largest that it may be: the smallest is one further from 0. It is handed over as its 32 bits
+abbrev pub signedBy : ℕ → ℕ → Signed → Value
+signedBy most place (signed.Plus n) = if ltb most n then Refused (TooLarge place most) else Taken (bitsOf (pos n))
+signedBy most place (signed.Minus n) = if ltb most n then Refused (TooSmall place most) else Taken (bitsOf (negsuc n))
+signedBy most place signed.TooLarge = Refused (TooLarge place most)
+signedBy most place signed.TooSmall = Refused (TooSmall place most)
+signedBy most place signed.NotSigned = Refused (NotNumber place)
+
 -- two digits a byte: a line of 4,096 bytes has no more
 abbrev pub lineBytes : ℕ
 lineBytes = 2_048
@@ -52,6 +64,7 @@ countBy place spelled.NotBytes = Refused (NotBytes place)
 -- what a word is as a parameter. Its place is counted from 1, the line's first word among them
 unfoldable pub valueOf : Parameter → ℕ → List ℕ → Value
 valueOf (parameter.Number most) place word = valueBy most place (numberOf word)
+valueOf (parameter.Signed most) place word = signedBy most place (signedOf word)
 valueOf parameter.Bytes place word = countBy place (countOf (spelledBy word))
 
 -- the first word that cannot be taken decides
@@ -77,6 +90,7 @@ numbersOf (parameter ∷ parameters) place (word ∷ words) = valuesBefore (valu
 -- the bytes of all bytes parameters, one after the other
 abbrev pub bytesAs : Parameter → List ℕ → List ℕ
 bytesAs (parameter.Number most) word = []
+bytesAs (parameter.Signed most) word = []
 bytesAs parameter.Bytes word = listOf (spelledBy word)
 
 unfoldable pub bytesIn : List Parameter → List (List ℕ) → List ℕ

@@ -5,11 +5,12 @@ ghost use lib.ListN.{length, drop, getD};
 ghost use lib.Seq.{sets};
 ghost use Rattle.image.specs.Image.{numberCount};
 ghost use Rattle.text.specs.Number.{numberOf};
+ghost use Rattle.text.specs.Signed.{signedOf};
 ghost use Rattle.hex.specs.Bytes.{bytesOf as spelledBy, countOf};
 ghost use Rattle.text.specs.Words.{wordsOf};
 ghost use Rattle.text.specs.Put.{Put};
 ghost use Rattle.table.specs.declared.Parameter.the-variants.{Bytes};
-ghost use Rattle.commands.specs.Commands.{valueBy, countBy, valueOf, takenOf, numbersOf, bytesAs, bytesIn, reading, recordOf, lineOf, parsedOf, valuesOf, bytesOf, orderBy};
+ghost use Rattle.commands.specs.Commands.{valueBy, signedBy, countBy, valueOf, takenOf, numbersOf, bytesAs, bytesIn, reading, recordOf, lineOf, parsedOf, valuesOf, bytesOf, orderBy};
 ghost use Rattle.table.specs.Rows.{listedIn};
 ghost use Rattle.commands.specs.Steps.{parametersAs, parametersOf, Gives};
 use hex::Spelled;
@@ -33,6 +34,8 @@ use text::line::next_word;
 use text::number::Number;
 use text::number::parse;
 use text::put::put;
+use text::signed::Signed;
+use text::signed::parse_signed;
 
 // The most bytes that the bytes parameters of a line have together: two digits a byte, in a line of 4,096 bytes.
 pub const LINE_BYTES: usize = 2048;
@@ -45,6 +48,8 @@ pub enum Reason {
     NotNumber(u32),
     // The word, and the largest number that it may be.
     TooLarge(u32, u32),
+    // The word, and the largest number that it may be: the smallest is one further from 0.
+    TooSmall(u32, u32),
     NotBytes(u32),
     // What is to be encoded is no call that has a kind.
     NoRecord,
@@ -64,7 +69,7 @@ pub enum Parsed {
     Wrong(Reason),
 }
 
-// What a word is as one of a command's parameters: a number, or how many bytes.
+// What a word is as one of a command's parameters: a number, of a signed one its 32 bits, or how many bytes.
 pub enum Value {
     Taken(u32),
     Refused(Reason),
@@ -73,7 +78,7 @@ pub enum Value {
 // The parameters that a line has to have: as many as a row's, and held as the row holds them; of a record, each any number.
 pub struct Asked {
     pub count: usize,
-    pub slots: [u64; 4],
+    pub slots: [u64; 6],
     pub wide: bool,
 }
 
@@ -97,7 +102,7 @@ fn parameter(asked: Asked, i: usize) -> Parameter
     if asked.wide {
         return Parameter::Number(LARGEST);
     }
-    if asked.count <= 4 {
+    if asked.count <= 6 {
         return held(asked.slots[i]);
     }
     Parameter::Number(image::limit(i))
@@ -116,6 +121,30 @@ fn limited(word: &[u8], most: u32, place: u32) -> Value
                 return Value::Refused(Reason::TooLarge(place, most));
             }
             Value::Taken(n)
+        }
+    }
+}
+
+// A word as a signed number up to a limit, and down to one further below 0.
+fn ranged(word: &[u8], most: u32, place: u32) -> Value
+    ensures { λ r. ⌜ r ≡ signedBy most place (signedOf (now (word .entry))) ⌝ }
+{
+    let signed = parse_signed(word);
+    match signed {
+        Signed::NotSigned => Value::Refused(Reason::NotNumber(place)),
+        Signed::TooLarge => Value::Refused(Reason::TooLarge(place, most)),
+        Signed::TooSmall => Value::Refused(Reason::TooSmall(place, most)),
+        Signed::Plus(n) => {
+            if most < n {
+                return Value::Refused(Reason::TooLarge(place, most));
+            }
+            Value::Taken(n)
+        }
+        Signed::Minus(n) => {
+            if most < n {
+                return Value::Refused(Reason::TooSmall(place, most));
+            }
+            Value::Taken(LARGEST - n)
         }
     }
 }
@@ -141,6 +170,7 @@ fn taken(word: &[u8], parameter: Parameter, place: u32) -> Value
 {
     match parameter {
         Parameter::Number(most) => limited(word, most, place),
+        Parameter::Signed(most) => ranged(word, most, place),
         Parameter::Bytes => counted(word, place),
     }
 }
@@ -177,6 +207,7 @@ fn put_parameter(word: &[u8], parameter: Parameter, bytes: &mut [u8], at: usize)
 {
     match parameter {
         Parameter::Number(_) => put(b"", bytes, at),
+        Parameter::Signed(_) => put(b"", bytes, at),
         Parameter::Bytes => take_bytes(word, bytes, at),
     }
 }

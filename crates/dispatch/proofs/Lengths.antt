@@ -5,26 +5,21 @@ use mathlib.Core.List.{List}
 use native.Mathlib.Omega.{arith}
 use lib.Dec.{leb}
 use borrow.Author.Tests.{leb-true}
-use Rattle.text.specs.Frame.{Frame}
 use Rattle.table.specs.declared.Verb.{Verb}
-use Rattle.table.specs.declared.Verb.the-variants.{Start, Write, Read, Ticks, Tach, Pin, Cabin, FanFail, Speed, Dump, Load, Show, Chart, Run, Decode, Help}
+use Rattle.table.specs.declared.Verb.the-variants.{Start, Write, Read, Ticks, Tach, Pin, Cabin, FanFail, Speed, Dump, Load, Show, Chart, Run, Decode, Galley, Help}
 use Rattle.commands.specs.declared.Parsed.the-variants.{Call}
 use Rattle.table.specs.Table.{commands, longestOf}
 use Rattle.commands.specs.Commands.{parsedOf}
 use Rattle.commands.proofs.Called.{called-tested}
 use Rattle.answers.specs.declared.replies.Hand.{Hand}
 use Rattle.answers.specs.declared.replies.Reply.{Reply}
-use Rattle.dispatch.specs.Answers.{longestAnswer, Shows, Answers}
+use Rattle.dispatch.specs.Answers.{longestAnswer, Answers}
+use Rattle.galley_dispatch.proofs.Lengths.{galley-long}
 
 -- the longest answer of every row is at most the room
 room : (words : List (List ℕ)) {verb : Verb} → parsedOf words ≡ Call verb → longestOf verb ≤ longestAnswer
 unfolding commands
 room words e = leb-true _ _ (called-tested (λ verb. leb (longestOf verb) longestAnswer) refl words e)
-
-module _ {hand : Hand} {at : ℕ} {before after : List ℕ} {reply : Reply} where
-  -- a text for a person, put by a function that leaves what is in hand
-  pub shows : {most next : ℕ} → (reply .hand ≡ hand) × (reply .at ≡ next) → Frame most at before after next → Shows hand at before after reply most
-  shows r f = (r .0, rw (r .1) f)
 
 module _ (hand : Hand) (at : ℕ) (before after : List ℕ) (reply : Reply) where
   pub row-long : (verb : Verb) (v bytes : List ℕ) → Answers hand at before after reply verb v bytes → reply .at ≤ at + longestOf verb
@@ -43,6 +38,7 @@ module _ (hand : Hand) (at : ℕ) (before after : List ℕ) (reply : Reply) wher
   row-long Chart v bytes a = a .1 .within
   row-long Run v bytes a = a .within
   row-long Decode v bytes a = a .1 .within
+  row-long (Galley verb) v bytes a = galley-long hand at before after reply verb v bytes a
   row-long Help v bytes a = a .1 .within
 
   pub call-long : (words : List (List ℕ)) (verb : Verb) (v bytes : List ℕ) → parsedOf words ≡ Call verb → Answers hand at before after reply verb v bytes → reply .at ≤ at + longestAnswer

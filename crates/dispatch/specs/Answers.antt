@@ -1,14 +1,12 @@
 -- What a command answers, and what is in hand after it: the table of the console's lines.
 use Prim.Native.Nat.{ℕ}
-use mathlib.Core.Path.{_≡_}
 use mathlib.Core.List.{List}
 use lib.ListN.{replicate}
 use lib.Seq.{sets}
 use Rattle.image.specs.Image.{numberCount, number}
 use Rattle.text.specs.Words.{wordsOf}
-use Rattle.text.specs.Frame.{Frame}
 use Rattle.table.specs.declared.Verb.{Verb}
-use Rattle.table.specs.declared.Verb.the-variants.{Start, Write, Read, Ticks, Tach, Pin, Cabin, FanFail, Speed, Dump, Load, Show, Chart, Run, Decode, Help}
+use Rattle.table.specs.declared.Verb.the-variants.{Start, Write, Read, Ticks, Tach, Pin, Cabin, FanFail, Speed, Dump, Load, Show, Chart, Run, Decode, Galley, Help}
 use Rattle.table.specs.declared.Kind.{Kind}
 use Rattle.commands.specs.declared.Parsed.{Parsed}
 use Rattle.commands.specs.declared.Parsed.the-variants.{Call, Encode, Wrong}
@@ -16,8 +14,9 @@ use Rattle.table.specs.Table.{longestOf}
 use Rattle.commands.specs.Commands.{parsedOf, valuesOf, lineBytes, bytesOf, orderBy}
 use Rattle.answers.specs.declared.replies.Hand.{Hand}
 use Rattle.answers.specs.declared.replies.Reply.{Reply}
-use Rattle.answers.specs.Replies.{Makes, MakesRead, Starts, TellsFanFail, TellsCabin, TellsSpeed, Dumps, Loads, writeCall, readCall, ticksCall, tachCall, pinCall}
+use Rattle.answers.specs.Replies.{Makes, MakesRead, Starts, TellsFanFail, TellsCabin, TellsSpeed, Dumps, Loads, Shows, writeCall, readCall, ticksCall, tachCall, pinCall}
 use Rattle.order_text.specs.Replies.{Runs, Encodes}
+use Rattle.galley_dispatch.specs.Answers.{AnswersGalley}
 
 -- the longest error; the longest answer, for which room is made before each line
 abbrev pub longestError : ℕ
@@ -28,10 +27,6 @@ longestAnswer = 43_079
 
 -- what is in hand, the index that the answer begins at, the buffer before and after, and the reply
 module _ (hand : Hand) (at : ℕ) (before after : List ℕ) (reply : Reply) where
-  -- "several lines for a person": at most so many bytes, and what is in hand stays
-  abbrev pub Shows : ℕ → Type 0
-  Shows most = (reply .hand ≡ hand) × Frame most at before after (reply .at)
-
   -- a command's answer, and what is in hand after it
   abbrev pub Answers : Verb → List ℕ → List ℕ → Type 0
   Answers Start v bytes = Starts hand at before after reply v
@@ -45,11 +40,12 @@ module _ (hand : Hand) (at : ℕ) (before after : List ℕ) (reply : Reply) wher
   Answers Speed v bytes = TellsSpeed hand at before after reply v
   Answers Dump v bytes = Dumps hand at before after reply
   Answers Load v bytes = Loads hand at before after reply v
-  Answers Show v bytes = Shows (longestOf Show)
-  Answers Chart v bytes = Shows (longestOf Chart)
+  Answers Show v bytes = Shows hand at before after reply (longestOf Show)
+  Answers Chart v bytes = Shows hand at before after reply (longestOf Chart)
   Answers Run v bytes = Runs hand at before after reply v bytes
-  Answers Decode v bytes = Shows (longestOf Decode)
-  Answers Help v bytes = Shows (longestOf Help)
+  Answers Decode v bytes = Shows hand at before after reply (longestOf Decode)
+  Answers (Galley verb) v bytes = AnswersGalley hand at before after reply verb v bytes
+  Answers Help v bytes = Shows hand at before after reply (longestOf Help)
 
   -- the record of a kind
   abbrev pub AnswersRecord : Kind → List ℕ → Type 0
@@ -59,7 +55,7 @@ module _ (hand : Hand) (at : ℕ) (before after : List ℕ) (reply : Reply) wher
   abbrev pub AnswersAs : Parsed → List ℕ → List ℕ → Type 0
   AnswersAs (Call verb) v bytes = Answers verb v bytes
   AnswersAs (Encode kind) v bytes = AnswersRecord kind v
-  AnswersAs (Wrong reason) v bytes = Shows longestError
+  AnswersAs (Wrong reason) v bytes = Shows hand at before after reply longestError
 
   -- a line; its values are the first of as many as a state has numbers, its bytes the first of as many as a line can have, and the
   -- others are 0

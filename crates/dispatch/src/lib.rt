@@ -1,6 +1,7 @@
 // A line's command, and the function that answers it.
 ghost use Prim.Native.Nat.{_+_, _≤_};
-ghost use Rattle.dispatch.specs.Answers.{longestError, longestAnswer, Shows, Answers, AnswersRecord, AnswersLine};
+ghost use Rattle.answers.specs.Replies.{Shows};
+ghost use Rattle.dispatch.specs.Answers.{longestError, longestAnswer, Answers, AnswersRecord, AnswersLine};
 use answers::replies::Hand;
 use answers::replies::Reply;
 use answers::replies::cabin_reply;
@@ -21,6 +22,7 @@ use commands::Parsed;
 use commands::Reason;
 use commands::order_by;
 use commands::parse_line;
+use galley_dispatch::galley_reply;
 use image::STATE_NUMBERS;
 use image::value;
 use messages::errors::put_error;
@@ -59,6 +61,7 @@ fn reply_to(
         Verb::Chart => replied(hand, put_chart(hand.state, value(values, 0), out, at)),
         Verb::Run => run_reply(hand, values, bytes, out, at),
         Verb::Decode => replied(hand, put_decoded(values, bytes, out, at)),
+        Verb::Galley(verb) => galley_reply(verb, hand, values, bytes, out, at),
         Verb::Help => replied(hand, put_help(out, at)),
     }
 }

@@ -39,7 +39,7 @@ fn six_bits(letter: u8) -> u32 {
 }
 
 // The calls that change the state, each from the one before. That none was refused is told by the sum in the end.
-fn passed(letters: [u8; 14]) -> State {
+fn passed(letters: [u8; 18]) -> State {
     let begun = start::start(
         six_bits(letters[0]),
         six_bits(letters[1]),
@@ -52,7 +52,7 @@ fn passed(letters: [u8; 14]) -> State {
     ticks::pass_each(once.state, &spans).state
 }
 
-fn changed(state: State, letters: [u8; 14]) -> State {
+fn changed(state: State, letters: [u8; 18]) -> State {
     let channel = six_bits(letters[8]);
     let judged = tachometer::take_result(state, channel, six_bits(letters[9]) << 5);
     let set = pin::set_pin(judged.state, letters[10] == b'A');
@@ -108,7 +108,7 @@ fn end_of(found: Found) -> u64 {
 }
 
 // A write and a read as an order string, whose second record is read back, and which is run.
-fn ran(state: State, letters: [u8; 14]) -> State {
+fn ran(state: State, letters: [u8; 18]) -> State {
     let mut string = [0u8; 5];
     let write = Call::Write(six_bits(letters[4]), letters[5]);
     let first = encode::encode(encode::order_of(write), &mut string, 0);
@@ -120,6 +120,46 @@ fn ran(state: State, letters: [u8; 14]) -> State {
     tell(b"taken ", run.taken as u64);
     tell(b"answered ", widened(answers[0]));
     run.state
+}
+
+fn temperature(letter: u8) -> i32 {
+    letter as i32
+}
+
+fn hex(valid: bool) -> u64 {
+    if valid {
+        return 1;
+    }
+    0
+}
+
+// A sample of a galley that is fresh, with one letter as all its tables' bytes; then a span of rows, and the temperature.
+fn served(state: State, letters: [u8; 18]) -> State {
+    let table = [letters[17]; 48];
+    let begun = galley::fresh(
+        temperature(letters[14]),
+        temperature(letters[15]),
+        letters[10] == b'A',
+        letters[10] == b'B',
+    );
+    let sample = galley::sample(
+        begun.galley,
+        state,
+        temperature(letters[16]),
+        &table,
+        &table,
+    );
+    let told = hex(sample.alert) << 8 | hex(sample.shutdown) << 4 | sample.galley.row as u64;
+    tell(b"alert, shutdown, row ", told);
+    let first = six_bits(letters[11]);
+    let end = six_bits(letters[9]);
+    let refusal = galley::span_refusal(sample.galley, first, end, &table, &table);
+    let rows = galley::span_rows(sample.galley, first, end, &table, &table);
+    tell(b"refused, rows ", widened(refusal) << 8 | rows.len() as u64);
+    let degrees = galley::degrees(sample.galley).degrees;
+    let past = at_least(degrees, 15.75) << 4 | at_least(degrees, 16.0);
+    tell(b"15.75 degrees, 16 degrees ", past);
+    sample.state
 }
 
 // The sum of a state's numbers, once they have been to numbers and back.
@@ -136,7 +176,7 @@ fn sum_of(state: State) -> u64 {
 }
 
 fn main() {
-    let mut letters = [0u8; 14];
+    let mut letters = [0u8; 18];
     io::read_full(STDIN_FILENO, &mut letters);
     let state = changed(passed(letters), letters);
     asked(state, six_bits(letters[12]));
@@ -144,5 +184,5 @@ fn main() {
         b"limit ",
         image::limit(six_bits(letters[13]) as usize) as u64,
     );
-    tell(b"sum ", sum_of(ran(state, letters)));
+    tell(b"sum ", sum_of(served(ran(state, letters), letters)));
 }

@@ -108,3 +108,14 @@ module _ (word : List ℕ) where
 pub spelled-half : (word : List ℕ) → 2 * length (listOf (bytesOf word)) ≤ length word
 spelled-half word =
     by-test (arePairs word) (λ t. rw (pairs-spelled word t, pairs-count word) (omega arith)) (λ f. rw (nothing-spelled word f) (omega arith))
+
+-- ---- how long bytes are as text: two digits for each, and one byte where there are none
+pairs-length : (bytes : List ℕ) → length (hexPairs bytes) ≡ 2 * length bytes
+unfolding hexPairs
+pairs-length [] = refl
+pairs-length (byte ∷ bytes) = omega (arith, pairs-length bytes)
+
+pub hex-length : (most : ℕ) → 1 ≤ most → (bytes : List ℕ) → length bytes ≤ most → length (hexOf bytes) ≤ 2 * most
+unfolding hexOf
+hex-length most some [] h = omega arith
+hex-length most some (byte ∷ bytes) h = omega (arith, pairs-length (byte ∷ bytes))

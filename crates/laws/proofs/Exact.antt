@@ -1,7 +1,7 @@
--- A number divided by 512 as the machine divides is exact, and so is every number of a reading.
+-- A number divided by a power of two as the machine divides is exact, and so is every number of a reading.
 use Prim.Native.Nat.{ℕ, _-_, _+_, _*_, _^_, _<_, _≤_}
 use mathlib.Core.Path.{_≡_, refl, sym, _∙_, ap}
-use mathlib.Core.Bool.{true, false}
+use mathlib.Core.Bool.{Bool, true, false}
 use mathlib.Core.List.{List, map, map-map}
 use native.Mathlib.Nat.{mul-comm, mul-assoc, mul-pos, one-mul, lt-of-lt-of-le, le-of-lt}
 use native.Mathlib.Omega.{arith}
@@ -26,31 +26,36 @@ use Rattle.rules.proofs.Tests.{by-test, choice, all-below}
 use Rattle.laws.proofs.Each.{map-at}
 use Rattle.laws.proofs.Duty.{output-duty-lt}
 
--- n / 2 ^ k is a binary64 value, for every n below 2 ^ 53
-fraction-exact : (n k : ℕ) → n < 2 ^ 53 → k ≤ 1074 → HasValue (round binary64 false n (2 ^ k)) false n (2 ^ k)
-fraction-exact n k h g =
+-- n / 2 ^ k is a binary64 value, for every n below 2 ^ 53 and either sign
+pub fraction-exact : (sign : Bool) (n k : ℕ) → n < 2 ^ 53 → k ≤ 1074 → HasValue (round binary64 sign n (2 ^ k)) sign n (2 ^ k)
+fraction-exact sign n k h g =
     let e : 2 ^ (1074 - k) * 2 ^ k ≡ 2 ^ 1074 = sym (pow-add 2 (1074 - k) k) ∙ ap (λ x. 2 ^ x) (back 1074 k g) in
     let b : 53 + (1074 - k) ≤ 2098 = omega arith in
-    round-exact binary64 false n (2 ^ k) n (1074 - k) (pow-pos k) h
+    round-exact binary64 sign n (2 ^ k) n (1074 - k) (pow-pos k) h
     (lt-of-lt-of-le (shl-lt 53 (1074 - k) h) (pow-mono b))
     (ap (λ x. n * x) (sym e) ∙ sym (mul-assoc n (2 ^ (1074 - k)) (2 ^ k)))
 
 pub over-512-exact : (n : ℕ) → n < 2 ^ 53 → Exactly n (over512 n)
 unfolding over512
-over-512-exact n h = fraction-exact n 9 h (omega arith)
+over-512-exact n h = fraction-exact false n 9 h (omega arith)
 
 -- a whole number over 2 ^ k, as the machine divides, is the fraction rounded
-divided-is-rounded : (x : Float) (n k : ℕ) → HasValue x false n 1 → div binary64 x (fin false 1 (pos k)) ≡ round binary64 false n (2 ^ k)
+pub divided-is-rounded : (sign : Bool) (x : Float) (n k : ℕ) → HasValue x sign n 1 →
+    div binary64 x (fin false 1 (pos k)) ≡ round binary64 sign n (2 ^ k)
 unfolding div
-divided-is-rounded nan n k v = absurd v
-divided-is-rounded (inf t) n k v = absurd v
-divided-is-rounded (fin t m e) n k v =
-    ap (λ sign. round binary64 (unlike sign false) (m * up e * 1) (1 * 2 ^ k * down e)) (v .0)
-    ∙ round-same binary64 false (m * up e * 1) (1 * 2 ^ k * down e) n (2 ^ k) (mul-pos (mul-pos one (pow-pos k)) (down-pos e)) (pow-pos k)
+divided-is-rounded sign nan n k v = absurd v
+divided-is-rounded sign (inf t) n k v = absurd v
+divided-is-rounded sign (fin t m e) n k v =
+    ap (λ s. round binary64 s (m * up e * 1) (1 * 2 ^ k * down e)) (unlike-plus t ∙ v .0)
+    ∙ round-same binary64 sign (m * up e * 1) (1 * 2 ^ k * down e) n (2 ^ k) (mul-pos (mul-pos one (pow-pos k)) (down-pos e)) (pow-pos k)
     (ap (λ z. z * 2 ^ k) (v .1) ∙ regroup (down e) (2 ^ k))
   where
     one : 0 < 1
     one = omega arith
+
+    unlike-plus : (t : Bool) → unlike t false ≡ t
+    unlike-plus false = refl
+    unlike-plus true = refl
 
     regroup : (d p : ℕ) → n * d * p ≡ n * (1 * p * d)
     regroup d p = mul-assoc n d p ∙ ap (λ x. n * x) (mul-comm d p ∙ ap (λ x. x * d) (sym (one-mul p)))
@@ -58,7 +63,7 @@ divided-is-rounded (fin t m e) n k v =
 -- a number as an f64, divided by 512.0
 pub divided-by-512 : (n : ℕ) → n < 2 ^ 53 → div binary64 (ofInt binary64 (pos n)) (fin false 1 (pos 9)) ≡ over512 n
 unfolding over512 ofInt
-divided-by-512 n h = divided-is-rounded (ofInt binary64 (pos n)) n 9 (round-whole binary64 false n (le-of-lt h))
+divided-by-512 n h = divided-is-rounded false (ofInt binary64 (pos n)) n 9 (round-whole binary64 false n (le-of-lt h))
 
 -- ---- a reading
 

@@ -2,8 +2,9 @@
 use Prim.Native.Nat.{ℕ}
 use mathlib.Core.Path.{_≡_, refl}
 use mathlib.Core.Bool.{true, false}
-use mathlib.Core.List.{List, [], _∷_}
+use mathlib.Core.List.{List, [], _∷_, _++_}
 use lib.Dec.{eqb}
+use Rattle.rules.specs.Basics.{every}
 use Rattle.rules.specs.Map.{settingAt, placeAt, isCarried}
 use Rattle.rules.specs.Calls.{accepted, stateNotValid, readOnly, answer}
 use Rattle.rules.specs.Valid.{validChannel, validRegisters, validStart, validTimer, validOf, ifValid}
@@ -14,8 +15,8 @@ use Rattle.rules.specs.Read.{readAt, readOf}
 use Rattle.rules.specs.Tick.{tick, iterate, ticksPassed}
 use Rattle.rules.specs.Tachometer.{isChannel, resultOf}
 use Rattle.rules.specs.Pin.{pinOf}
-use Rattle.rules.specs.Make.{made, afterEach, Keeps}
-use Rattle.rules.proofs.Tests.{choice}
+use Rattle.rules.specs.Make.{made, madeEach, afterEach, Keeps}
+use Rattle.rules.proofs.Tests.{choice, and-left, and-right, and-both}
 use Rattle.laws.proofs.Types.{State, Answer, ReadAnswer, Call, Write, Read, Ticks, Tachometer, Pin}
 use Rattle.laws.proofs.Kept.{write-valid, read-valid}
 use Rattle.laws.proofs.Results.{result-valid, pin-valid}
@@ -96,3 +97,29 @@ pub each-valid : (s : State) (calls : List Call) → validOf s ≡ true → vali
 unfolding afterEach
 each-valid s [] v = v
 each-valid s (call ∷ calls) v = each-valid (made s call .state) calls (calls-keep s call .valid v)
+
+-- no calls; one list of calls after another
+pub each-none : (s : State) → afterEach s [] ≡ s
+unfolding afterEach
+each-none s = refl
+
+pub each-on : (s : State) (calls others : List Call) → afterEach s (calls ++ others) ≡ afterEach (afterEach s calls) others
+unfolding afterEach
+each-on s [] others = refl
+each-on s (call ∷ calls) others = each-on (made s call .state) calls others
+
+-- each call of a list is accepted: of none, and of one list after another
+abbrev pub AllAccepted : State → List Call → Type 0
+AllAccepted s calls = every (λ a. eqb (a .refusal) accepted) (madeEach s calls) ≡ true
+
+pub accepted-none : (s : State) → AllAccepted s []
+unfolding madeEach
+accepted-none s = refl
+
+pub accepted-on : (s : State) (calls others : List Call) → AllAccepted s calls → AllAccepted (afterEach s calls) others → AllAccepted s (calls ++ others)
+unfolding madeEach afterEach
+accepted-on s [] others e f = f
+accepted-on s (call ∷ calls) others e f =
+    let one = eqb (made s call .refusal) accepted in
+    let rest = every (λ a. eqb (a .refusal) accepted) (madeEach (made s call .state) calls) in
+    and-both one _ (and-left one rest e) (accepted-on (made s call .state) calls others (and-right one rest e) f)

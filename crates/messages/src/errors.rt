@@ -3,6 +3,7 @@ ghost use Rattle.text.specs.Frame.{Frame};
 use commands::Reason;
 use form::put_form;
 use form::put_text;
+use table::LARGEST;
 use table::put_usage;
 
 fn put_word_count(place: usize, line: u32, out: &mut [u8], at: usize) -> usize
@@ -16,6 +17,33 @@ fn put_word_count(place: usize, line: u32, out: &mut [u8], at: usize) -> usize
     );
     let usage = put_usage(place, out, expected);
     put_text(b"\n", out, usage)
+}
+
+// How far from 0 the smallest of the signed numbers is, by the largest.
+fn one_further(most: u32) -> u32 {
+    if most < LARGEST { most + 1 } else { LARGEST }
+}
+
+fn put_too_large(line: u32, word: u32, most: u32, out: &mut [u8], at: usize) -> usize
+    ensures { λ r. ⌜ Frame 97 at (now (out .entry)) (now (out .exit)) r ⌝ }
+{
+    put_form(
+        b"error: line #: word # is too large, at most #\n",
+        &[line, word, most],
+        out,
+        at,
+    )
+}
+
+fn put_too_small(line: u32, word: u32, most: u32, out: &mut [u8], at: usize) -> usize
+    ensures { λ r. ⌜ Frame 97 at (now (out .entry)) (now (out .exit)) r ⌝ }
+{
+    put_form(
+        b"error: line #: word # is too small, at least -#\n",
+        &[line, word, one_further(most)],
+        out,
+        at,
+    )
 }
 
 // Why a line, counted from 1, is no call.
@@ -33,12 +61,8 @@ pub fn put_error(reason: Reason, line: u32, out: &mut [u8], at: usize) -> usize
                 at,
             )
         }
-        Reason::TooLarge(word, most) => put_form(
-            b"error: line #: word # is too large, at most #\n",
-            &[line, word, most],
-            out,
-            at,
-        ),
+        Reason::TooLarge(word, most) => put_too_large(line, word, most, out, at),
+        Reason::TooSmall(word, most) => put_too_small(line, word, most, out, at),
         Reason::NotBytes(word) => {
             put_form(
                 b"error: line #: word # is not bytes\n",

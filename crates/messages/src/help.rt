@@ -3,11 +3,13 @@ ghost use Rattle.text.specs.Frame.{Frame};
 use form::put_text;
 
 pub fn put_help(out: &mut [u8], at: usize) -> usize
-    ensures { λ r. ⌜ Frame 1379 at (now (out .entry)) (now (out .exit)) r ⌝ }
+    ensures { λ r. ⌜ Frame 2138 at (now (out .entry)) (now (out .exit)) r ⌝ }
 {
     put_text(
         b"A command, and what it answers. Numbers are decimal, or hexadecimal after 0x.
 A STRING is bytes: hexadecimal digits in pairs, or - for none.
+A signed number is decimal, with - before it where it is below 0. NORMAL QUIET are the galley's
+two tables, STRINGs of 48 bytes.
 start WATCHDOG SPINUP TARGET FREQUENCY  refusal; 0 is accepted, here and below
 write ADDRESS BYTE                      refusal
 read ADDRESS                            refusal, byte
@@ -24,6 +26,13 @@ chart TICKS                             the duties over the next TICKS ticks, dr
 run STRING ALLOWANCE ROOM               refusal, records taken, answer bytes, the buffer of ROOM bytes
 encode CALL                             a write, read, ticks, tach or pin as its record, in bytes
 decode STRING                           the records of STRING for a person to read
+gfresh HIGH OVER HYSTERESIS QUIET       refusal; signed thresholds in 1/8 C, 0 or 1 for 2 C or 4 C, 1 for quiet
+gsample T NORMAL QUIET                  refusal, ALERT, SHDN; T is signed, in 1/8 C
+gspan FIRST END NORMAL QUIET            refusal, the table in force from row FIRST to before row END
+gread                                   refusal, the temperature in degrees
+gdump                                   the galley's row, temperature, high, over, hysteresis, quiet
+gload NUMBERS                           ok; the galley is made of these six numbers
+gshow                                   the galley for a person to read
 help                                    these lines
 ",
         out,

@@ -1,30 +1,19 @@
 -- How long the answers to `run` and `encode` are at most.
-use Prim.Native.Nat.{ℕ, _*_, _≤_}
-use mathlib.Core.Path.{_≡_, refl}
-use mathlib.Core.List.{List, [], _∷_}
+use Prim.Native.Nat.{ℕ, _≤_}
+use mathlib.Core.Path.{_≡_}
+use mathlib.Core.List.{List}
 use native.Mathlib.Omega.{arith}
 use lib.ListN.{length, take, length-append}
 use lib.Seq.{take-at}
 use Rattle.strings.specs.declared.Order.{Order}
 use Rattle.strings.specs.Encode.{encoded}
 use Rattle.text.specs.Put.{Put}
-use Rattle.hex.specs.Bytes.{hexPairs, hexOf}
+use Rattle.hex.proofs.Pairs.{hex-length}
 use Rattle.text.proofs.Lengths.{digits-length}
 use Rattle.text.proofs.Stores.{put-with-room}
 use Rattle.answers.specs.Numbers.{spaced}
 use Rattle.encode.proofs.Lengths.{record-length}
 use Rattle.order_text.specs.Replies.{runLine, mostRoom, runMost, recordLine, recordMost}
-
--- two digits for each byte
-pairs-length : (bytes : List ℕ) → length (hexPairs bytes) ≡ 2 * length bytes
-unfolding hexPairs
-pairs-length [] = refl
-pairs-length (byte ∷ bytes) = omega (arith, pairs-length bytes)
-
-hex-length : (most : ℕ) → 1 ≤ most → (bytes : List ℕ) → length bytes ≤ most → length (hexOf bytes) ≤ 2 * most
-unfolding hexOf
-hex-length most some [] h = omega arith
-hex-length most some (byte ∷ bytes) h = omega (arith, pairs-length (byte ∷ bytes))
 
 pub run-length : (refusal taken answered : ℕ) (buffer : List ℕ) → length buffer ≤ mostRoom → length (runLine refusal taken answered buffer) ≤ runMost
 unfolding runLine spaced

@@ -1,10 +1,11 @@
 -- A call as a value: one of those that are handed a state is made, or a list of them one after the other.
-use Prim.Native.Nat.{ℕ}
+use Prim.Native.Nat.{ℕ, _+_, _*_}
 use mathlib.Core.Path.{_≡_}
-use mathlib.Core.Bool.{true}
+use mathlib.Core.Bool.{true, false}
 use mathlib.Core.List.{List, [], _∷_, map}
 use Rattle.rules.specs.Types.{State, Answer, ReadAnswer, Call, Write, Read, Ticks, Tachometer, Pin}
 use Rattle.rules.specs.Valid.{validOf, ifValid}
+use Rattle.rules.specs.Words.{dutyWord, wordByte}
 use Rattle.rules.specs.Calls.{accepted, answer, readAnswer}
 use Rattle.rules.specs.Write.{writeOf}
 use Rattle.rules.specs.Read.{readOf}
@@ -38,6 +39,14 @@ afterEach s (call ∷ calls) = afterEach (made s call .state) calls
 -- that the last one leaves, and 1 where the first is refused
 unfoldable pub eachPassed : State → List ℕ → Answer
 eachPassed s elapsed = ifValid s (answer accepted (afterEach s (map Ticks elapsed)))
+
+-- the six target duties; and the calls that write a duty to the target of the channel with index i: the high byte, then the low one
+abbrev pub targets : State → List ℕ
+targets s = map (λ ch. ch .target) (s .channels)
+
+unfoldable pub targetCalls : ℕ → ℕ → List Call
+targetCalls i duty =
+    Write (0x40 + 2 * i) (wordByte false (dutyWord duty)) ∷ Write (0x41 + 2 * i) (wordByte true (dutyWord duty)) ∷ []
 
 -- demand 1: "a refused call that was handed a state gives the same state back"; "All given-back states after sound ones are sound"
 pub record Keeps (s : State) (call : Call) : Type 0 where

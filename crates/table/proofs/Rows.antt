@@ -15,7 +15,7 @@ use Rattle.text.specs.Put.{Put}
 use Rattle.table.specs.declared.Command.{Command}
 use Rattle.table.specs.declared.Found.{Found}
 use Rattle.image.specs.Image.{channelsLimits, limits, numberCount}
-use Rattle.table.specs.Table.{Row, callRows, stateRows, stringRows, commands, stateNumbers, nameOf, sameBytes, Named, known, unknown, namedAmong, usageAt}
+use Rattle.table.specs.Table.{Row, callRows, stateRows, stringRows, galleyRows, commands, stateNumbers, nameOf, sameBytes, Named, known, unknown, namedAmong, usageAt}
 use Rattle.table.specs.Rows.{RowAt, Is, Describe, FoundAs}
 
 -- the row at an index, in both
@@ -40,15 +40,24 @@ module _ (rows others : List Row) where
 module _ (source : List Command) (d : Command) (i : ℕ) where
   pub call-row : Describe source callRows → i < 6 → RowAt (getD source i d) commands i
   unfolding commands
-  call-row e h = in-first callRows (stateRows ++ stringRows) h (row-at source callRows e i h d)
+  call-row e h = in-first callRows (stateRows ++ (stringRows ++ galleyRows)) h (row-at source callRows e i h d)
 
   pub state-row : Describe source stateRows → i < 7 → RowAt (getD source i d) commands (6 + i)
   unfolding commands
-  state-row e h = in-second callRows (stateRows ++ stringRows) (in-first stateRows stringRows h (row-at source stateRows e i h d))
+  state-row e h =
+      in-second callRows (stateRows ++ (stringRows ++ galleyRows)) (in-first stateRows (stringRows ++ galleyRows) h (row-at source stateRows e i h d))
 
-  pub string-row : Describe source stringRows → i < 4 → RowAt (getD source i d) commands (6 + (7 + i))
+  pub string-row : Describe source stringRows → i < 3 → RowAt (getD source i d) commands (6 + (7 + i))
   unfolding commands
-  string-row e h = in-second callRows (stateRows ++ stringRows) (in-second stateRows stringRows (row-at source stringRows e i h d))
+  string-row e h =
+      in-second callRows (stateRows ++ (stringRows ++ galleyRows))
+      (in-second stateRows (stringRows ++ galleyRows) (in-first stringRows galleyRows h (row-at source stringRows e i h d)))
+
+  pub galley-row : Describe source galleyRows → i < 8 → RowAt (getD source i d) commands (6 + (7 + (3 + i)))
+  unfolding commands
+  galley-row e h =
+      in-second callRows (stateRows ++ (stringRows ++ galleyRows))
+      (in-second stateRows (stringRows ++ galleyRows) (in-second stringRows galleyRows (row-at source galleyRows e i h d)))
 
 module _ {command : Command} {rows : List Row} {i : ℕ} (at : RowAt command rows i) where
   pub name-within : command .name ≤ length (command .usage)
@@ -117,7 +126,7 @@ usage-short place =
     leb-true _ _ (every-at (λ usage. leb (length usage) 38) (map (λ row. row .usage) commands) place [] refl refl)
 
 -- as many rows, and numbers of a state, as the source has
-pub many : length commands ≡ 17
+pub many : length commands ≡ 24
 unfolding commands
 many = refl
 

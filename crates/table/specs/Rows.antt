@@ -1,5 +1,5 @@
 -- The table's rows as the source holds them, and what a search gives.
-use Prim.Native.Nat.{ℕ, _≤_, _<_}
+use Prim.Native.Nat.{ℕ, _-_, _^_, _≤_, _<_}
 use mathlib.Core.Path.{_≡_}
 use mathlib.Core.Bool.{Bool, true, _&&_}
 use mathlib.Core.List.{List, map}
@@ -8,19 +8,20 @@ use lib.Dec.{leb, ltb}
 use Rattle.rules.specs.Basics.{if_then_else_}
 use Rattle.table.specs.declared.Asks.{Asks}
 use Rattle.table.specs.declared.Parameter.{Parameter}
-use Rattle.table.specs.declared.Parameter.the-variants.{Number, Bytes}
+use Rattle.table.specs.declared.Parameter.the-variants.{Number, Signed, Bytes}
 use Rattle.table.specs.declared.Recorded.{Recorded}
 use Rattle.table.specs.declared.Command.{Command}
 use Rattle.table.specs.declared.Found.{Found}
-use Rattle.table.specs.Table.{Row, commands, largest, nameOf, stateNumbers, Named, known, unknown}
+use Rattle.table.specs.Table.{Row, commands, nameOf, stateNumbers, Named, known, unknown}
 
--- a parameter as the source's row holds it: the largest that a number may be; of bytes, one that no number may be
+-- a parameter as the source's row holds it: the largest that a number may be; of a signed one this and 2 ^ 32; of bytes 2 ^ 33, which
+-- neither may be
 abbrev pub parameterBy : ℕ → Parameter
-parameterBy slot = if ltb largest slot then Bytes else Number slot
+parameterBy slot = if ltb slot (2 ^ 32) then Number slot else if ltb slot (2 ^ 33) then Signed (slot - 2 ^ 32) else Bytes
 
--- a command's parameters: those in its row, which has room for four, or the numbers of a state
+-- a command's parameters: those in its row, which has room for six, or the numbers of a state
 abbrev pub parametersBy : ℕ → List ℕ → List Parameter
-parametersBy count slots = if leb count 4 then map (λ slot. parameterBy slot) (take count slots) else stateNumbers
+parametersBy count slots = if leb count 6 then map (λ slot. parameterBy slot) (take count slots) else stateNumbers
 
 abbrev pub listedIn : Command → List Parameter
 listedIn command = parametersBy (command .count) (command .slots)

@@ -9,11 +9,13 @@ use Rattle.rules.specs.Basics.{if_then_else_}
 use Rattle.text.specs.Ascii.{ascii}
 use Rattle.text.specs.Words.{runOf}
 use Rattle.table.specs.declared.Verb.{Verb}
-use Rattle.table.specs.declared.Verb.the-variants.{Start, Write, Read, Ticks, Tach, Pin, Cabin, FanFail, Speed, Dump, Load, Show, Chart, Run, Decode, Help}
+use Rattle.table.specs.declared.Verb.the-variants.{Start, Write, Read, Ticks, Tach, Pin, Cabin, FanFail, Speed, Dump, Load, Show, Chart, Run, Decode, Galley, Help}
+use Rattle.table.specs.declared.GalleyVerb.{GalleyVerb}
+use Rattle.table.specs.declared.GalleyVerb.the-variants as galley
 use Rattle.table.specs.declared.Asks.{Asks}
 use Rattle.table.specs.declared.Asks.the-variants.{For, Record}
 use Rattle.table.specs.declared.Parameter.{Parameter}
-use Rattle.table.specs.declared.Parameter.the-variants.{Number, Bytes}
+use Rattle.table.specs.declared.Parameter.the-variants.{Number, Signed, Bytes}
 use Rattle.table.specs.declared.Kind.{Kind}
 use Rattle.table.specs.declared.Kind.the-variants as kind
 use Rattle.table.specs.declared.Recorded.{Recorded}
@@ -44,6 +46,13 @@ largest = 4_294_967_295
 abbrev pub any : Parameter
 any = Number largest
 
+-- "-2,147,483,648 to 2,147,483,647"; "signed 16 bits"
+abbrev pub anySigned : Parameter
+anySigned = Signed 2_147_483_647
+
+abbrev pub signed16 : Parameter
+signed16 = Signed 32_767
+
 -- the numbers of a state, each up to what the state can hold
 unfoldable pub stateNumbers : List Parameter
 stateNumbers = map (λ most. Number most) limits
@@ -71,19 +80,41 @@ stateRows =
     ∷ row "chart TICKS" Chart (any ∷ [])
     ∷ []
 
--- order strings, and help
+-- order strings
 abbrev pub stringRows : List Row
 stringRows =
     row "run STRING ALLOWANCE ROOM" Run (Bytes ∷ any ∷ Number 2_048 ∷ [])
     ∷ rowOfRecord "encode CALL"
     ∷ row "decode STRING" Decode (Bytes ∷ [])
+    ∷ []
+
+-- the galley, and help. "TABLES are two parameters of bytes, the normal and the quiet table"; the numbers of `gload`: "row 0 to 255, the
+-- next three signed 16 bits, the last two 0 or 1"
+abbrev pub galleyRows : List Row
+galleyRows =
+    row "gfresh HIGH OVER HYSTERESIS QUIET" (Galley galley.Fresh) (anySigned ∷ anySigned ∷ Number 1 ∷ Number 1 ∷ [])
+    ∷ row "gsample T NORMAL QUIET" (Galley galley.Sample) (anySigned ∷ Bytes ∷ Bytes ∷ [])
+    ∷ row "gspan FIRST END NORMAL QUIET" (Galley galley.Span) (any ∷ any ∷ Bytes ∷ Bytes ∷ [])
+    ∷ row "gread" (Galley galley.Read) []
+    ∷ row "gdump" (Galley galley.Dump) []
+    ∷ row "gload NUMBERS" (Galley galley.Load) (Number 255 ∷ signed16 ∷ signed16 ∷ signed16 ∷ Number 1 ∷ Number 1 ∷ [])
+    ∷ row "gshow" (Galley galley.Show) []
     ∷ row "help" Help []
     ∷ []
 
 unfoldable pub commands : List Row
-commands = callRows ++ (stateRows ++ stringRows)
+commands = callRows ++ (stateRows ++ (stringRows ++ galleyRows))
 
 -- how many bytes an answer has at most
+abbrev pub longestOfGalley : GalleyVerb → ℕ
+longestOfGalley galley.Fresh = 11
+longestOfGalley galley.Sample = 33
+longestOfGalley galley.Span = 108
+longestOfGalley galley.Read = 34
+longestOfGalley galley.Dump = 69
+longestOfGalley galley.Load = 3
+longestOfGalley galley.Show = 262
+
 abbrev pub longestOf : Verb → ℕ
 longestOf Start = 11
 longestOf Write = 11
@@ -100,7 +131,8 @@ longestOf Show = 1343
 longestOf Chart = 1431
 longestOf Run = 4130
 longestOf Decode = 43079
-longestOf Help = 1379
+longestOf (Galley verb) = longestOfGalley verb
+longestOf Help = 2138
 
 -- the word that a command begins with
 abbrev pub nameOf : Row → List ℕ

@@ -3,7 +3,7 @@ ghost use mathlib.Core.Path.{_≡_};
 ghost use Prim.Native.Nat.{_<_, _≤_};
 ghost use lib.ListN.{length, take};
 ghost use Rattle.text.specs.Put.{Put};
-ghost use Rattle.table.specs.Table.{callRows, stateRows, stringRows, commands, sameBytes, namedBy, usageAt};
+ghost use Rattle.table.specs.Table.{callRows, stateRows, stringRows, galleyRows, commands, sameBytes, namedBy, usageAt};
 ghost use Rattle.table.specs.Rows.{parameterBy, Describe, RowAt, FoundAs};
 use check::same;
 use image::STATE_NUMBERS;
@@ -26,7 +26,19 @@ pub enum Verb {
     Chart,
     Run,
     Decode,
+    Galley(GalleyVerb),
     Help,
+}
+
+// What a line asks of the galley.
+pub enum GalleyVerb {
+    Fresh,
+    Sample,
+    Span,
+    Read,
+    Dump,
+    Load,
+    Show,
 }
 
 // What a command asks for: what its verb says, or the record of the call that follows, with the words that it has.
@@ -35,9 +47,11 @@ pub enum Asks {
     Record,
 }
 
-// A parameter of a command: a number, with the largest that it may be, or bytes.
+// A parameter of a command: a number, with the largest that it may be; a signed number, the smallest being one further from 0
+// than the largest; or bytes.
 pub enum Parameter {
     Number(u32),
+    Signed(u32),
     Bytes,
 }
 
@@ -63,10 +77,10 @@ pub struct Command {
     pub name: usize,
     pub asks: Asks,
     pub recorded: Recorded,
-    // How many parameters follow. Up to four are listed, each as a number: the largest that it may be; of bytes, one that no
-    // number may be. More are the numbers of a state.
+    // How many parameters follow. Up to six are listed, each as a number: the largest that it may be; of a signed one this and
+    // 2 ^ 32; of bytes 2 ^ 33, which neither may be. More are the numbers of a state.
     pub count: usize,
-    pub slots: [u64; 4],
+    pub slots: [u64; 6],
 }
 
 // A row and its place in the table, counted from 0; a place past the last row where there is none.
@@ -86,23 +100,34 @@ const LEVEL: u64 = 1;
 
 const ROOM: u64 = 2048;
 
-const STRING: u64 = 4294967296;
+// Where the slots of signed numbers begin, and after them the one of bytes.
+const SIGNED: u64 = 4294967296;
+
+const STRING: u64 = 8589934592;
+
+const DEGREES: u64 = SIGNED + 2147483647;
+
+const STORED: u64 = SIGNED + 32767;
 
 // Past a row's last parameter.
 const NONE: u64 = 0;
 
-// The rows stand in three parts, which are proved apart: the calls that start and drive the device, what is asked of a state, and
-// order strings with `help`.
+// The rows stand in four parts, which are proved apart: the calls that start and drive the device, what is asked of a state, order
+// strings, and the galley with `help`.
 const CALL_ROWS: usize = 6;
 
 const STATE_ROWS: usize = 7;
 
-const STRING_ROWS: usize = 4;
+const STRING_ROWS: usize = 3;
 
-// The place of the first row of order strings.
+const GALLEY_ROWS: usize = 8;
+
+// The places of the first row of order strings and of the first of the galley.
 const STRINGS_FROM: usize = CALL_ROWS + STATE_ROWS;
 
-pub const ROWS: usize = STRINGS_FROM + STRING_ROWS;
+const GALLEY_FROM: usize = STRINGS_FROM + STRING_ROWS;
+
+pub const ROWS: usize = GALLEY_FROM + GALLEY_ROWS;
 
 const CALLS: [Command; CALL_ROWS] = [
     Command {
@@ -112,7 +137,7 @@ const CALLS: [Command; CALL_ROWS] = [
         asks: Asks::For(Verb::Start),
         recorded: Recorded::Not,
         count: 4,
-        slots: [ANY, ANY, ANY, BYTE],
+        slots: [ANY, ANY, ANY, BYTE, NONE, NONE],
     },
     Command {
         usage: *b"write ADDRESS BYTE                    ",
@@ -121,7 +146,7 @@ const CALLS: [Command; CALL_ROWS] = [
         asks: Asks::For(Verb::Write),
         recorded: Recorded::As(Kind::Write),
         count: 2,
-        slots: [ANY, BYTE, NONE, NONE],
+        slots: [ANY, BYTE, NONE, NONE, NONE, NONE],
     },
     Command {
         usage: *b"read ADDRESS                          ",
@@ -130,7 +155,7 @@ const CALLS: [Command; CALL_ROWS] = [
         asks: Asks::For(Verb::Read),
         recorded: Recorded::As(Kind::Read),
         count: 1,
-        slots: [ANY, NONE, NONE, NONE],
+        slots: [ANY, NONE, NONE, NONE, NONE, NONE],
     },
     Command {
         usage: *b"ticks N                               ",
@@ -139,7 +164,7 @@ const CALLS: [Command; CALL_ROWS] = [
         asks: Asks::For(Verb::Ticks),
         recorded: Recorded::As(Kind::Ticks),
         count: 1,
-        slots: [ANY, NONE, NONE, NONE],
+        slots: [ANY, NONE, NONE, NONE, NONE, NONE],
     },
     Command {
         usage: *b"tach CHANNEL COUNT                    ",
@@ -148,7 +173,7 @@ const CALLS: [Command; CALL_ROWS] = [
         asks: Asks::For(Verb::Tach),
         recorded: Recorded::As(Kind::Tachometer),
         count: 2,
-        slots: [ANY, ANY, NONE, NONE],
+        slots: [ANY, ANY, NONE, NONE, NONE, NONE],
     },
     Command {
         usage: *b"pin LEVEL                             ",
@@ -157,7 +182,7 @@ const CALLS: [Command; CALL_ROWS] = [
         asks: Asks::For(Verb::Pin),
         recorded: Recorded::As(Kind::Pin),
         count: 1,
-        slots: [LEVEL, NONE, NONE, NONE],
+        slots: [LEVEL, NONE, NONE, NONE, NONE, NONE],
     },
 ];
 
@@ -169,7 +194,7 @@ const STATES: [Command; STATE_ROWS] = [
         asks: Asks::For(Verb::Cabin),
         recorded: Recorded::Not,
         count: 0,
-        slots: [NONE, NONE, NONE, NONE],
+        slots: [NONE, NONE, NONE, NONE, NONE, NONE],
     },
     Command {
         usage: *b"fanfail                               ",
@@ -178,7 +203,7 @@ const STATES: [Command; STATE_ROWS] = [
         asks: Asks::For(Verb::FanFail),
         recorded: Recorded::Not,
         count: 0,
-        slots: [NONE, NONE, NONE, NONE],
+        slots: [NONE, NONE, NONE, NONE, NONE, NONE],
     },
     Command {
         usage: *b"speed RANGE PULSES COUNT              ",
@@ -187,7 +212,7 @@ const STATES: [Command; STATE_ROWS] = [
         asks: Asks::For(Verb::Speed),
         recorded: Recorded::Not,
         count: 3,
-        slots: [ANY, ANY, ANY, NONE],
+        slots: [ANY, ANY, ANY, NONE, NONE, NONE],
     },
     Command {
         usage: *b"dump                                  ",
@@ -196,7 +221,7 @@ const STATES: [Command; STATE_ROWS] = [
         asks: Asks::For(Verb::Dump),
         recorded: Recorded::Not,
         count: 0,
-        slots: [NONE, NONE, NONE, NONE],
+        slots: [NONE, NONE, NONE, NONE, NONE, NONE],
     },
     Command {
         usage: *b"load NUMBERS                          ",
@@ -205,7 +230,7 @@ const STATES: [Command; STATE_ROWS] = [
         asks: Asks::For(Verb::Load),
         recorded: Recorded::Not,
         count: STATE_NUMBERS,
-        slots: [NONE, NONE, NONE, NONE],
+        slots: [NONE, NONE, NONE, NONE, NONE, NONE],
     },
     Command {
         usage: *b"show                                  ",
@@ -214,7 +239,7 @@ const STATES: [Command; STATE_ROWS] = [
         asks: Asks::For(Verb::Show),
         recorded: Recorded::Not,
         count: 0,
-        slots: [NONE, NONE, NONE, NONE],
+        slots: [NONE, NONE, NONE, NONE, NONE, NONE],
     },
     Command {
         usage: *b"chart TICKS                           ",
@@ -223,7 +248,7 @@ const STATES: [Command; STATE_ROWS] = [
         asks: Asks::For(Verb::Chart),
         recorded: Recorded::Not,
         count: 1,
-        slots: [ANY, NONE, NONE, NONE],
+        slots: [ANY, NONE, NONE, NONE, NONE, NONE],
     },
 ];
 
@@ -235,7 +260,7 @@ const STRINGS: [Command; STRING_ROWS] = [
         asks: Asks::For(Verb::Run),
         recorded: Recorded::Not,
         count: 3,
-        slots: [STRING, ANY, ROOM, NONE],
+        slots: [STRING, ANY, ROOM, NONE, NONE, NONE],
     },
     Command {
         usage: *b"encode CALL                           ",
@@ -244,7 +269,7 @@ const STRINGS: [Command; STRING_ROWS] = [
         asks: Asks::Record,
         recorded: Recorded::Not,
         count: 0,
-        slots: [NONE, NONE, NONE, NONE],
+        slots: [NONE, NONE, NONE, NONE, NONE, NONE],
     },
     Command {
         usage: *b"decode STRING                         ",
@@ -253,7 +278,73 @@ const STRINGS: [Command; STRING_ROWS] = [
         asks: Asks::For(Verb::Decode),
         recorded: Recorded::Not,
         count: 1,
-        slots: [STRING, NONE, NONE, NONE],
+        slots: [STRING, NONE, NONE, NONE, NONE, NONE],
+    },
+];
+
+const GALLEY: [Command; GALLEY_ROWS] = [
+    Command {
+        usage: *b"gfresh HIGH OVER HYSTERESIS QUIET     ",
+        long: 33,
+        name: 6,
+        asks: Asks::For(Verb::Galley(GalleyVerb::Fresh)),
+        recorded: Recorded::Not,
+        count: 4,
+        slots: [DEGREES, DEGREES, LEVEL, LEVEL, NONE, NONE],
+    },
+    Command {
+        usage: *b"gsample T NORMAL QUIET                ",
+        long: 22,
+        name: 7,
+        asks: Asks::For(Verb::Galley(GalleyVerb::Sample)),
+        recorded: Recorded::Not,
+        count: 3,
+        slots: [DEGREES, STRING, STRING, NONE, NONE, NONE],
+    },
+    Command {
+        usage: *b"gspan FIRST END NORMAL QUIET          ",
+        long: 28,
+        name: 5,
+        asks: Asks::For(Verb::Galley(GalleyVerb::Span)),
+        recorded: Recorded::Not,
+        count: 4,
+        slots: [ANY, ANY, STRING, STRING, NONE, NONE],
+    },
+    Command {
+        usage: *b"gread                                 ",
+        long: 5,
+        name: 5,
+        asks: Asks::For(Verb::Galley(GalleyVerb::Read)),
+        recorded: Recorded::Not,
+        count: 0,
+        slots: [NONE, NONE, NONE, NONE, NONE, NONE],
+    },
+    Command {
+        usage: *b"gdump                                 ",
+        long: 5,
+        name: 5,
+        asks: Asks::For(Verb::Galley(GalleyVerb::Dump)),
+        recorded: Recorded::Not,
+        count: 0,
+        slots: [NONE, NONE, NONE, NONE, NONE, NONE],
+    },
+    Command {
+        usage: *b"gload NUMBERS                         ",
+        long: 13,
+        name: 5,
+        asks: Asks::For(Verb::Galley(GalleyVerb::Load)),
+        recorded: Recorded::Not,
+        count: 6,
+        slots: [BYTE, STORED, STORED, STORED, LEVEL, LEVEL],
+    },
+    Command {
+        usage: *b"gshow                                 ",
+        long: 5,
+        name: 5,
+        asks: Asks::For(Verb::Galley(GalleyVerb::Show)),
+        recorded: Recorded::Not,
+        count: 0,
+        slots: [NONE, NONE, NONE, NONE, NONE, NONE],
     },
     Command {
         usage: *b"help                                  ",
@@ -262,7 +353,7 @@ const STRINGS: [Command; STRING_ROWS] = [
         asks: Asks::For(Verb::Help),
         recorded: Recorded::Not,
         count: 0,
-        slots: [NONE, NONE, NONE, NONE],
+        slots: [NONE, NONE, NONE, NONE, NONE, NONE],
     },
 ];
 
@@ -270,10 +361,13 @@ const STRINGS: [Command; STRING_ROWS] = [
 pub fn held(slot: u64) -> Parameter
     ensures { λ r. ⌜ r ≡ parameterBy slot ⌝ }
 {
-    if ANY < slot {
-        return Parameter::Bytes;
+    if slot < SIGNED {
+        return Parameter::Number(slot as u32);
     }
-    Parameter::Number(slot as u32)
+    if slot < STRING {
+        return Parameter::Signed((slot - SIGNED) as u32);
+    }
+    Parameter::Bytes
 }
 
 fn calls() -> [Command; CALL_ROWS]
@@ -294,6 +388,12 @@ fn order_strings() -> [Command; STRING_ROWS]
     STRINGS
 }
 
+fn galley() -> [Command; GALLEY_ROWS]
+    ensures { λ r. ⌜ Describe r galleyRows ⌝ }
+{
+    GALLEY
+}
+
 // The row at a place.
 fn row(place: usize) -> Command
     requires { ⌜ place < length commands ⌝ }
@@ -307,8 +407,12 @@ fn row(place: usize) -> Command
         let rows = states();
         return rows[place - CALL_ROWS];
     }
-    let rows = order_strings();
-    rows[place - STRINGS_FROM]
+    if place < GALLEY_FROM {
+        let rows = order_strings();
+        return rows[place - STRINGS_FROM];
+    }
+    let rows = galley();
+    rows[place - GALLEY_FROM]
 }
 
 // Whether a word is the front of a usage, which is a command's name.

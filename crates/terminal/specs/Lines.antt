@@ -8,7 +8,8 @@ use lib.Dec.{eqb}
 use Rattle.text.specs.Words.{wordsOf, counted}
 use Rattle.answers.specs.declared.replies.Hand.{Hand}
 use Rattle.answers.specs.declared.replies.Reply.{Reply}
-use Rattle.dispatch.specs.Answers.{longestError, longestAnswer, Shows, AnswersLine}
+use Rattle.dispatch.specs.Answers.{longestError, longestAnswer, AnswersLine}
+use Rattle.answers.specs.Replies.{Shows}
 
 -- "A line that is empty, blank, or whose first word begins with `#` is skipped"
 abbrev pub skippedOf : List (List ℕ) → Bool

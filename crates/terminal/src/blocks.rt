@@ -23,14 +23,20 @@ struct Progress {
     at: usize,
 }
 
-// "Before the first `start` or `load` the state in hand is the one that a refused start gives": no watchdog code is 4.
+// "Before the first `start` or `load` the state in hand is the one that a refused start gives": no watchdog code is 4. "before the
+// first `gfresh` or `gload` it is the one that a refused fresh call gives": no threshold is 1,024.
 fn begin() -> Progress
     ensures { λ r. ⌜ (r .kept ≡ 0) × (r .at ≡ 0) ⌝ }
 {
     let refused = start::start(4, 0, 0, 0);
     let state = refused.state;
+    let out_of_range = galley::fresh(1024, 0, false, false);
+    let galley = out_of_range.galley;
     Progress {
-        hand: Hand { state: state },
+        hand: Hand {
+            state: state,
+            galley: galley,
+        },
         lines: 0,
         kept: 0,
         total: 0,

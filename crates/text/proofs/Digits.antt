@@ -12,7 +12,9 @@ use lib.Seq.{drop-cons}
 use lib.Dec.{eqb}
 use borrow.Author.Tests.{lt-ltb, le-ltb, eq-eqb}
 use Rattle.text.specs.declared.number.Number.the-variants.{TooLarge, NotNumber}
-use Rattle.text.specs.Number.{limit, digitOf, areDigits, spelledAfter, limited, numberAfter, inBase, prefixed}
+use Rattle.text.specs.declared.signed.Signed.the-variants.{NotSigned}
+use Rattle.text.specs.Number.{limit, digitOf, areDigits, spelledAfter, limited, numberAfter, inBase, prefixed, numberOf}
+use Rattle.text.specs.Signed.{signedOf}
 
 module _ (base : ℕ) where
   -- one digit read
@@ -83,3 +85,9 @@ prefix-long text e =
       | yes l ↦ absurd (false≢true (too-short text l ∙ e))
       | no g ↦ omega arith
     ]
+
+-- no text is no signed number
+pub no-text : (text : List ℕ) → length text ≡ 0 → NotSigned ≡ signedOf text
+unfolding signedOf numberOf prefixed inBase
+no-text [] h = refl
+no-text (byte ∷ text) h = absurd (omega arith)

@@ -1,20 +1,23 @@
--- An f64 that is a number of 512ths exactly: a number divided by 512 is exact below 2 ^ 53, so comparing with it counts them.
-use Prim.Native.Nat.{ℕ, zero, suc, _+_, _-_, _*_, _^_, _≤_, _<_}
-use mathlib.Core.Path.{_≡_, sym, _∙_}
-use mathlib.Core.Bool.{true, false, _&&_, _||_}
-use native.Mathlib.Nat.{two-pow-succ, mul-comm, mul-assoc, mul-right-comm, mul-pos, mul-lt-mul-of-pos-right, mul-le-mul-right}
+-- An f64 that is a number of 512ths, or of eighths, exactly: a number divided by 512 is exact below 2 ^ 53, so comparing with it counts them.
+use Prim.Native.Nat.{ℕ, zero, suc, _+_, _-_, _*_, _/_, _^_, _≤_, _<_}
+use mathlib.Core.Path.{_≡_, sym, ap, _∙_}
+use mathlib.Core.Bool.{Bool, true, false, not, _&&_, _||_}
+use mathlib.Core.List.{_∷_}
+use native.Mathlib.Nat.{two-pow-succ, mul-comm, mul-assoc, mul-right-comm, zero-mul, mul-pos, mul-lt-mul-of-pos-right, mul-le-mul-right}
 use native.Mathlib.Decide.{decLt}
 use native.Mathlib.Omega.{arith}
 use lib.Dec.{leb, ltb, eqb}
 use lib.Pow.{pow-pos}
-use lib.Ieee.{Float, nan, inf, fin, up, down, le, lt, eq}
+use lib.IntN.{ℤ, pos, negsuc, natAbs}
+use lib.Signed.{nonNeg}
+use lib.Ieee.{Float, nan, inf, fin, up, down, neg, le, lt, eq}
 use lib.Ieee.Exact.{HasValue}
 use lib.Ieee.Fits.{down-pos}
 use borrow.Author.Tests.{lt-ltb, le-ltb, le-leb, lt-leb, eq-eqb, ne-eqb}
 use Rattle.rules.specs.Basics.{if_then_else_}
 use Rattle.rules.specs.Reading.{over512}
 use Rattle.laws.proofs.Exact.{over-512-exact}
-use Rattle.text.specs.Fraction.{partsAfter, partsOf}
+use Rattle.text.specs.Fraction.{partsAfter, partsOf, threeDecimals, eighthsText, signedEighths}
 
 -- ---- values of one denominator are in the order of their numerators
 scaled : (p q d : ℕ) → 0 < d → leb p q ≡ leb (p * d) (q * d)
@@ -93,3 +96,51 @@ counted (suc bits) m n x v low high room =
 pub parts-exact : (x : Float) (n : ℕ) → HasValue x false n 512 → n < 2 ^ 32 → partsOf x ≡ n
 unfolding partsOf
 parts-exact x n v h = counted 32 0 n x v (omega arith) (omega arith) (omega arith)
+
+-- ---- eighths
+eighths-512ths : (x : Float) (s : Bool) (n : ℕ) → HasValue x s n 8 → HasValue x s (n * 64) 512
+eighths-512ths nan s n v = v
+eighths-512ths (inf t) s n v = v
+eighths-512ths (fin t m e) s n v = (
+  v .0,
+  sym (mul-assoc (m * up e) 8 64) ∙ ap (λ (k : ℕ). k * 64) (v .1) ∙ mul-right-comm n (down e) 64,
+)
+
+opposite : (x : Float) (s : Bool) (n d : ℕ) → HasValue x s n d → HasValue (neg x) (not s) n d
+unfolding neg
+opposite nan s n d v = v
+opposite (inf t) s n d v = v
+opposite (fin t m e) s n d v = (ap not (v .0), v .1)
+
+-- an f64 that is n eighths exactly has n
+eighth-parts : (x : Float) (n : ℕ) → HasValue x false n 8 → n < 2 ^ 26 → partsOf x / 64 ≡ n
+eighth-parts x n v h = rw (parts-exact x (n * 64) (eighths-512ths x false n v) (omega arith)) (omega arith)
+
+not-below-zero : (x : Float) (n : ℕ) → HasValue x false n 8 → lt x (fin false 0 (pos 0)) ≡ false
+unfolding lt
+not-below-zero nan n v = absurd v
+not-below-zero (inf t) n v = absurd v
+not-below-zero (fin t m e) n v = rw (v .0) (le-ltb (m * up e * 1) (0 * 1 * down e) (rw (zero-mul 1, zero-mul (down e)) (omega arith)))
+
+below-zero : (x : Float) (n : ℕ) → HasValue x true (suc n) 8 → lt x (fin false 0 (pos 0)) ≡ true
+unfolding lt
+below-zero nan n v = absurd v
+below-zero (inf t) n v = absurd v
+below-zero (fin t m e) n v =
+    let some : 0 < suc n * down e = mul-pos (omega arith) (down-pos e) in
+    rw (v .0) (lt-ltb 0 (m * up e * 1 + 0 * 1 * down e) (omega (arith, v .1, some)))
+
+-- an f64 that is so many eighths exactly is put as that number
+pub eighths-exact : (x : Float) (t : ℤ) → HasValue x (not (nonNeg t)) (natAbs t) 8 → natAbs t < 2 ^ 26 → eighthsText x ≡ signedEighths t
+unfolding eighthsText signedEighths
+eighths-exact x (pos n) v h = rw (not-below-zero x n v, eighth-parts x n v h)
+eighths-exact x (negsuc n) v h = rw (below-zero x n v, eighth-parts (neg x) (suc n) (opposite x true (suc n) 8 v) h)
+
+-- as the machine tests it
+pub below-text : (x : Float) → lt x (fin false 0 (pos 0)) ≡ true → 45 ∷ threeDecimals (partsOf (neg x) / 64) ≡ eighthsText x
+unfolding eighthsText
+below-text x t = rw t
+
+pub above-text : (x : Float) → lt x (fin false 0 (pos 0)) ≡ false → threeDecimals (partsOf x / 64) ≡ eighthsText x
+unfolding eighthsText
+above-text x f = rw f

@@ -6,3 +6,4 @@ pub mod Spelling
 pub mod Exact
 pub mod RoundTrip
 pub mod Lengths
+pub mod Integers

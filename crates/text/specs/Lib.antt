@@ -5,3 +5,4 @@ pub mod Put
 pub mod Frame
 pub mod Decimal
 pub mod Fraction
+pub mod Signed

@@ -4,3 +4,4 @@ pub mod fraction;
 pub mod line;
 pub mod number;
 pub mod put;
+pub mod signed;

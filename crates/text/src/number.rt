@@ -48,7 +48,7 @@ fn least(a: u64, b: u64) -> u64
 
 // The number that the bytes from an index on spell. A number that has passed the limit is held at it, so that no sum
 // overflows, however many digits come.
-fn in_base(text: &[u8], from: usize, base: u64) -> Number
+pub(crate) fn in_base(text: &[u8], from: usize, base: u64) -> Number
     requires { ⌜ (from ≤ length (now text)) × (0 < base) × (base ≤ 16) ⌝ }
     ensures { λ r. ⌜ r ≡ inBase base (drop from (now (text .entry))) ⌝ }
 {

@@ -22,13 +22,13 @@ Own start = start .args .i < length (parametersBy (start .args .t1 .count) (star
 own : (c : tie.Else1) → Own (c .before)
 own c = rw (c .if1 .left) at (c .before .pre)
 
-four : (c : tie.Start) → length (c .args .t1 .slots) ≡ 4
-four c = search needs
+six : (c : tie.Start) → length (c .args .t1 .slots) ≡ 6
+six c = search needs
 
-below : (c : tie.Then2) → c .before .before .args .i < 4
+below : (c : tie.Then2) → c .before .before .args .i < 6
 below c =
     let asked = c .before .before .args .t1 in
-    omega (arith, listed-below (asked .count) (asked .slots) (own (c .before)) (c .if2 .taken), four (c .before .before))
+    omega (arith, listed-below (asked .count) (asked .slots) (own (c .before)) (c .if2 .taken), six (c .before .before))
 
 mul-held : tie.Need-mul-held
 mul-held c = record { fits = omega (arith, below c) }

@@ -1,5 +1,5 @@
 -- `dispatch::refuse` meets its contract. Assumes nothing.
-use Rattle.dispatch.proofs.Lengths.{shows}
+use Rattle.answers.proofs.Telling.{shows}
 use borrow.Author.Needs.{needs}
 use Rattle.dispatch.proofs.refuse.Statement.{statement}
 use Rattle.dispatch.proofs.refuse.Tie as tie

@@ -1,8 +1,8 @@
 -- `dispatch::reply_to` meets its contract. Assumes nothing.
 use native.Mathlib.Omega.{arith}
 use Rattle.text.proofs.Frames.{frame-looser}
+use Rattle.answers.proofs.Telling.{shows}
 use borrow.Author.Needs.{needs}
-use Rattle.dispatch.proofs.Lengths.{shows}
 use Rattle.dispatch.proofs.reply_to.Statement.{statement}
 use Rattle.dispatch.proofs.reply_to.Tie as tie
 
@@ -108,6 +108,12 @@ put-decoded-requires c κs = tt
 replied-requires-3 : tie.Need-replied-requires-3
 replied-requires-3 c κs = tt
 
+enum-known-verb : tie.Need-enum-known-verb
+enum-known-verb c = search needs
+
+galley-reply-requires : tie.Need-galley-reply-requires
+galley-reply-requires c κs = tt
+
 enum-told-16 : tie.Need-enum-told-16
 enum-told-16 c = search needs
 
@@ -194,8 +200,8 @@ same-length-13 c = search needs
 
 returns-13 : tie.Need-returns-13
 returns-13 c =
-    let drawn = c .before .before .before in
-    rw (drawn .before .before .before .before .enum-told13 .given .1) (shows (c .replied2 .ensures) (drawn .put-chart .ensures))
+    let told = c .before .before .before in
+    rw (told .before .before .before .before .enum-told13 .given .1) (shows (c .replied2 .ensures) (told .put-chart .ensures))
 
 same-length-14 : tie.Need-same-length-14
 same-length-14 c = search needs
@@ -215,7 +221,15 @@ same-length-16 : tie.Need-same-length-16
 same-length-16 c = search needs
 
 returns-16 : tie.Need-returns-16
-returns-16 c = rw (c .before .before .before .before .before .enum-told16 .given .1) (shows (c .replied4 .ensures) (c .before .before .before .put-help .ensures))
+returns-16 c =
+    let replied = c .before .before in
+    rw (replied .before .before .before .before .before .verb .given .1) (replied .galley-reply .ensures)
+
+same-length-17 : tie.Need-same-length-17
+same-length-17 c = search needs
+
+returns-17 : tie.Need-returns-17
+returns-17 c = rw (c .before .before .before .before .before .enum-told16 .given .1) (shows (c .replied4 .ensures) (c .before .before .before .put-help .ensures))
 
 pub reply-to-spec : {M : Type 1} → statement M
 reply-to-spec =
@@ -255,6 +269,8 @@ reply-to-spec =
     enum-told-15
     put-decoded-requires
     replied-requires-3
+    enum-known-verb
+    galley-reply-requires
     enum-told-16
     put-help-requires
     replied-requires-4
@@ -289,4 +305,6 @@ reply-to-spec =
     same-length-15
     returns-15
     same-length-16
-    returns-16)
+    returns-16
+    same-length-17
+    returns-17)

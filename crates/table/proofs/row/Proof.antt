@@ -1,16 +1,16 @@
 -- `row` meets its contract. Assumes nothing.
-use borrow.Author.Needs.{needs}
 use Prim.Native.Nat.{_+_, _-_}
 use mathlib.Core.Path.{_≡_, subst}
 use native.Mathlib.Omega.{arith}
 use Rattle.table.specs.Table.{commands}
 use Rattle.table.specs.Rows.{RowAt}
-use Rattle.table.proofs.Rows.{many, call-row, state-row, string-row}
+use Rattle.table.proofs.Rows.{many, call-row, state-row, string-row, galley-row}
+use borrow.Author.Needs.{needs}
 use Rattle.table.proofs.row.Statement.{statement}
 use Rattle.table.proofs.row.Tie as tie
 
 calls-requires : tie.Need-calls-requires
-calls-requires c κs = tt
+calls-requires c κs = search needs
 
 mul-result : tie.Need-mul-result
 mul-result c = search needs
@@ -24,7 +24,7 @@ returns c =
     call-row (c .before .calls .result) _ (start .args .place) (c .before .calls .ensures) (omega arith)
 
 states-requires : tie.Need-states-requires
-states-requires c κs = tt
+states-requires c κs = search needs
 
 mul-result-2 : tie.Need-mul-result-2
 mul-result-2 c = search needs
@@ -39,19 +39,34 @@ returns-2 c =
     subst (RowAt _ commands) place (state-row (c .before .states .result) _ (start .args .place - 6) (c .before .states .ensures) (omega arith))
 
 order-strings-requires : tie.Need-order-strings-requires
-order-strings-requires c κs = tt
+order-strings-requires c κs = search needs
 
 mul-result-3 : tie.Need-mul-result-3
-mul-result-3 c = record { fits = omega (arith, many) }
+mul-result-3 c = search needs
 
 array-copy-out-result-3 : tie.Need-array-copy-out-result-3
-array-copy-out-result-3 c = omega (arith, many)
+array-copy-out-result-3 c = search needs
 
 returns-3 : tie.Need-returns-3
 returns-3 c =
-    let start = c .before .before .before .before in
+    let start = c .before .before .before .before .before in
     let place : 6 + (7 + (start .args .place - 13)) ≡ start .args .place = omega arith in
-    subst (RowAt _ commands) place (string-row (c .before .order-strings .result) _ (start .args .place - 13) (c .before .order-strings .ensures) (omega (arith, many)))
+    subst (RowAt _ commands) place (string-row (c .before .order-strings .result) _ (start .args .place - 13) (c .before .order-strings .ensures) (omega arith))
+
+galley-requires : tie.Need-galley-requires
+galley-requires c κs = search needs
+
+mul-result-4 : tie.Need-mul-result-4
+mul-result-4 c = record { fits = omega (arith, many) }
+
+array-copy-out-result-4 : tie.Need-array-copy-out-result-4
+array-copy-out-result-4 c = omega (arith, many)
+
+returns-4 : tie.Need-returns-4
+returns-4 c =
+    let start = c .before .before .before .before .before in
+    let place : 6 + (7 + (3 + (start .args .place - 16))) ≡ start .args .place = omega arith in
+    subst (RowAt _ commands) place (galley-row (c .before .galley .result) _ (start .args .place - 16) (c .before .galley .ensures) (omega (arith, many)))
 
 pub row-spec : {M : Type 1} → statement M
 row-spec =
@@ -68,4 +83,8 @@ row-spec =
     order-strings-requires
     mul-result-3
     array-copy-out-result-3
-    returns-3)
+    returns-3
+    galley-requires
+    mul-result-4
+    array-copy-out-result-4
+    returns-4)

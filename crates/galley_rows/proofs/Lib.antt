@@ -1,0 +1,2 @@
+-- What the proofs of these functions, and of the calls, share.
+pub mod Signed
