@@ -1,5 +1,5 @@
-//! What a scenario's calls are made with: addresses, bytes, counts and spans that lie where the
-//! paper draws a line, and some that lie anywhere. Only inputs are chosen here, no answers.
+//! What a scenario's calls are made with: addresses, bytes, words, counts and spans that lie where
+//! the paper draws a line, and some that lie anywhere. Only inputs are chosen here, no answers.
 
 pub mod galley;
 
@@ -7,6 +7,7 @@ use crate::model::{
     carried, period, spin_up_ticks, watchdog_limit, Channel, State, CHANNELS, MONITOR_ONLY,
 };
 use crate::random::Random;
+use crate::states::{random_duty, random_target_count};
 
 pub fn address(random: &mut Random) -> u32 {
     let index = random.below(CHANNELS as u32);
@@ -41,6 +42,54 @@ pub fn no_register(random: &mut Random) -> u32 {
     random.weighted(&[(3, neighbour), (2, far), (1, any)])
 }
 
+pub fn read_only_register(random: &mut Random) -> u32 {
+    let any = random.between(0x18, 0x3B);
+    let edge = random.pick(&[0x10, 0x11, 0x18, 0x23, 0x24, 0x2F, 0x30, 0x3B]);
+    random.weighted(&[(2, edge), (1, any)])
+}
+
+/// An even address of a target.
+pub fn target_address(random: &mut Random) -> u32 {
+    let index = random.below(CHANNELS as u32);
+    random.weighted(&[(3, 0x40 + 2 * index), (2, 0x50 + 2 * index)])
+}
+
+/// An address for a word: mostly that of a target, else one at which it is refused.
+pub fn word_address(random: &mut Random) -> u32 {
+    let target = target_address(random);
+    let refused = address_without_words(random);
+    random.weighted(&[(5, target), (3, refused)])
+}
+
+/// Carried or not, and no even address of a target; the lower byte or half may be one.
+pub fn address_without_words(random: &mut Random) -> u32 {
+    let index = random.below(CHANNELS as u32);
+    let target = target_address(random);
+    let byte_register = random.pick(&[
+        0x00,
+        0x01,
+        0x02 + index,
+        0x08 + index,
+        0x12,
+        0x13,
+        0x14,
+        0x60 + index,
+    ]);
+    let far = random.pick(&[0x100, 0x8000, 0x1_0000, 0x8000_0000]) + target;
+    // The even ones beside the rows of carried registers.
+    let neighbour = random.pick(&[0x0E, 0x16, 0x3C, 0x3E, 0x4C, 0x4E, 0x5C, 0x5E, 0x66]);
+    let read_only = read_only_register(random);
+    let no_register = no_register(random);
+    random.weighted(&[
+        (8, target + 1),
+        (8, byte_register),
+        (6, read_only),
+        (3, neighbour),
+        (3, far),
+        (1, no_register),
+    ])
+}
+
 /// A number that no channel has.
 pub fn no_channel(random: &mut Random) -> u32 {
     let any = random.any().max(7);
@@ -66,6 +115,37 @@ pub fn byte_for(random: &mut Random, address: u32) -> u8 {
         0x14 => any & 0xF3 | random.pick(&[0x00, 0x04, 0x04, 0x04, 0x08, 0x0C]),
         _ => random.weighted(&[(2, any), (1, edge)]),
     }
+}
+
+/// Words beside which the nine or the eleven bits of a target change, or at which they end.
+pub const WORD_EDGES: [u16; 8] = [
+    0x0000, 0x001F, 0x0020, 0x007F, 0x0080, 0xFF80, 0xFFE0, 0xFFFF,
+];
+
+pub fn word_for(random: &mut Random, address: u32) -> u16 {
+    let edge = random.pick(&WORD_EDGES);
+    let any = random.any() as u16;
+    let duty = word_of_duty(random);
+    let count = word_of_count(random);
+    match address {
+        0x40..=0x4B => random.weighted(&[(5, duty), (2, edge), (1, any)]),
+        0x50..=0x5B => random.weighted(&[(6, count), (2, edge)]),
+        _ => random.weighted(&[(1, duty), (1, count), (1, edge), (1, any)]),
+    }
+}
+
+pub fn word_of_duty(random: &mut Random) -> u16 {
+    random_duty(random) << 7 | bits_below(random, 1 << 7)
+}
+
+pub fn word_of_count(random: &mut Random) -> u16 {
+    random_target_count(random) << 5 | bits_below(random, 1 << 5)
+}
+
+/// Bits that are dropped: mostly some of them are set.
+pub fn bits_below(random: &mut Random, lowest_kept: u16) -> u16 {
+    let any = random.below(lowest_kept.into()) as u16;
+    random.pick(&[0, lowest_kept - 1, any, any])
 }
 
 /// Watchdog codes with the other bits on and off; standby, reset or both in every second byte.

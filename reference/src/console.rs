@@ -34,6 +34,10 @@ pub enum Call {
     Pin {
         level: bool,
     },
+    Word {
+        address: u32,
+        word: u16,
+    },
     Cabin,
     FanFail,
     Speed {
@@ -61,6 +65,7 @@ impl Call {
             Call::Ticks { .. } => "ticks",
             Call::Tachometer { .. } => "tach",
             Call::Pin { .. } => "pin",
+            Call::Word { .. } => "word",
             Call::Cabin => "cabin",
             Call::FanFail => "fanfail",
             Call::Speed { .. } => "speed",
@@ -105,6 +110,7 @@ impl Call {
             Call::Ticks { count } => vec![count],
             Call::Tachometer { channel, count } => vec![channel, count],
             Call::Pin { level } => vec![u32::from(level)],
+            Call::Word { address, word } => vec![address, u32::from(word)],
             Call::Speed {
                 range_code,
                 pulses,
@@ -130,16 +136,13 @@ impl Call {
                 frequency,
             } => changed(state, model::start(watchdog, spin_up, target, frequency)),
             Call::Write { address, byte } => changed(state, model::write(state, address, byte)),
-            Call::Read { address } => {
-                let (refusal, byte, next) = model::read(state, address);
-                *state = next;
-                (refusal, format!("{refusal} {byte}"))
-            }
+            Call::Read { address } => read_answer(state, address),
             Call::Ticks { count } => changed(state, model::ticks(state, count)),
             Call::Tachometer { channel, count } => {
                 changed(state, model::tachometer(state, channel, count))
             }
             Call::Pin { level } => changed(state, model::pin(state, level)),
+            Call::Word { address, word } => changed(state, model::write_word(state, address, word)),
             Call::Cabin => cabin_answer(state),
             Call::FanFail => fan_fail_answer(state),
             Call::Speed {
@@ -166,6 +169,12 @@ impl Call {
 fn changed(state: &mut State, (refusal, next): (u32, State)) -> (u32, String) {
     *state = next;
     (refusal, refusal.to_string())
+}
+
+fn read_answer(state: &mut State, address: u32) -> (u32, String) {
+    let (refusal, byte, next) = model::read(state, address);
+    *state = next;
+    (refusal, format!("{refusal} {byte}"))
 }
 
 /// "`speed` answers refusal and speed as before, or `0 stopped`, or `0 too fast`."
@@ -253,6 +262,7 @@ fn channel_numbers(channel: &Channel) -> [u32; 9] {
 #[cfg(test)]
 mod tests {
     use super::*;
+    use crate::text::plain_line;
 
     fn answer(call: Call, state: &mut State) -> String {
         call.make(state).1
@@ -323,6 +333,24 @@ mod tests {
     }
 
     #[test]
+    fn a_word_answers_with_its_refusal_alone() {
+        let (_, mut state) = model::start(0, 0, 0, 0);
+        let word = |address| Call::Word {
+            address,
+            word: 0x6400,
+        };
+        assert_eq!(plain_line(&word(0x40).words()), "word 64 25600");
+        for (address, line) in [(0x40, "0"), (0x41, "8"), (0x18, "3"), (0x3C, "2")] {
+            assert_eq!(answer(word(address), &mut state), line);
+        }
+        let record = Call::Encode(vec![5, 64, 70_000]);
+        assert_eq!(plain_line(&record.words()), "encode word 64 70000");
+        assert_eq!(answer(Call::Read { address: 0x40 }, &mut state), "0 100");
+        state.mask1 = 0x40;
+        assert_eq!(answer(word(0x40), &mut state), "1");
+    }
+
+    #[test]
     fn a_run_answers_with_its_counts_and_the_whole_buffer() {
         let (_, mut state) = model::start(0, 0, 0, 0x77);
         let run = |string: &[u8], allowance, room| Call::Run {
@@ -348,6 +376,9 @@ mod tests {
             (vec![2, u32::MAX], "02ffffffff0f"),
             (vec![3, 6, 127], "03067f"),
             (vec![4, 2], "0402"),
+            (vec![5, 0x4A, 65_535], "054affff03"),
+            (vec![5, 0x40, 65_536], "0540808004"),
+            (vec![5, u32::MAX, 0], "05ffffffff0f00"),
         ];
         for (record, bytes) in encodings {
             assert_eq!(answer(Call::Encode(record), &mut state), bytes);
@@ -363,6 +394,11 @@ mod tests {
         };
         assert_eq!(write.record(), Some(vec![0, 300, 9]));
         assert_eq!(Call::Pin { level: true }.record(), Some(vec![4, 1]));
+        let word = Call::Word {
+            address: 0x5A,
+            word: 65_535,
+        };
+        assert_eq!(word.record(), Some(vec![5, 0x5A, 65_535]));
         assert_eq!(Call::Dump.record(), None);
     }
 }

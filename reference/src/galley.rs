@@ -1,6 +1,7 @@
 //! The galley box by the words of the change request "The galley box" (K5), of the facts that the
 //! paper keeps for it and of the MAX31760's sheet (document 000): a temperature finds a row of a
-//! table, and the row's duty goes to the controller below. Sentences in quotation marks are theirs.
+//! table, and the row's duty goes to the controller below. Sentences in quotation marks are theirs,
+//! or those of the request that is named before them.
 
 use crate::model::{self, State, ACCEPTED, CHANNELS, FULL_DUTY, NOT_SOUND};
 
@@ -189,13 +190,11 @@ fn drive(controller: &State, duty: u16) -> State {
     next
 }
 
-/// A target duty is "9 bits", left-justified in two registers, and "two-byte values have the high
-/// byte first": so are they written, as two calls.
+/// A target duty is "9 bits", left-justified, and K6 joins "the two byte writes of a target duty
+/// [..] into one word write": a call for each target that differs.
 fn write_target(controller: &State, index: u32, duty: u16) -> State {
-    let [high, low] = (duty << 7).to_be_bytes();
-    let (first, between) = model::write(controller, 0x40 + 2 * index, high);
-    let (second, next) = model::write(&between, 0x41 + 2 * index, low);
-    assert_eq!((first, second), (ACCEPTED, ACCEPTED));
+    let (refusal, next) = model::write_word(controller, 0x40 + 2 * index, duty << 7);
+    assert_eq!(refusal, ACCEPTED);
     next
 }
 

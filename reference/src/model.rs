@@ -1,5 +1,6 @@
 //! The controller by the words of the paper, "Rules of the seat-box fan controller" (01): state,
-//! soundness and calls, with ticks taken one at a time. Sentences in quotation marks are the paper's.
+//! soundness and calls, with ticks taken one at a time. Sentences in quotation marks are the
+//! paper's, or those of the change request that is named before them.
 
 pub const CHANNELS: usize = 6;
 pub const FULL_DUTY: u16 = 511;
@@ -16,6 +17,7 @@ pub const CONFIGURATION: u32 = 4;
 pub const NO_SUCH_CHANNEL: u32 = 5;
 pub const SPEED_REFUSED: u32 = 6;
 pub const PIN_SET_VALUE: u32 = 7;
+pub const BYTE_OR_WORD: u32 = 8;
 
 // "00h: bit 7 standby, 6 reset (reads 0), 5 bus timeout, 3 oscillator, 2:1 watchdog code,
 // 0 watchdog status. Bits 4 and 0 of a written byte are ignored."
@@ -400,6 +402,11 @@ pub fn read_only(address: u32) -> bool {
     matches!(address, 0x10 | 0x11 | 0x18..=0x3B)
 }
 
+/// "40h to 4Bh: target duty, 9 bits. 50h to 5Bh: target count, 11 bits."
+fn of_a_target(address: u32) -> bool {
+    matches!(address, 0x40..=0x4B | 0x50..=0x5B)
+}
+
 pub fn write(state: &State, address: u32, byte: u8) -> (u32, State) {
     let refusal = write_refusal(state, address, byte);
     if refusal != ACCEPTED {
@@ -411,7 +418,8 @@ pub fn write(state: &State, address: u32, byte: u8) -> (u32, State) {
     (ACCEPTED, next)
 }
 
-/// "Tested in the order of their numbers; given then and never otherwise."
+/// "Tested in the order of their numbers; given then and never otherwise." K6: "8, after 3: a byte
+/// write to 40h to 4Bh or 50h to 5Bh, or a word write elsewhere or to an odd address."
 fn write_refusal(state: &State, address: u32, byte: u8) -> u32 {
     let configuration = (0x02..=0x07).contains(&address);
     if !sound(state) {
@@ -420,8 +428,39 @@ fn write_refusal(state: &State, address: u32, byte: u8) -> u32 {
         NOT_CARRIED
     } else if read_only(address) {
         READ_ONLY
+    } else if of_a_target(address) {
+        BYTE_OR_WORD
     } else if configuration && byte & CONFIGURATION_REFUSED != 0 {
         CONFIGURATION
+    } else {
+        ACCEPTED
+    }
+}
+
+/// K6: "Join the two byte writes of a target duty or target count into one word write. It counts as
+/// one bus transaction, and for a duty clears the fault once."
+pub fn write_word(state: &State, address: u32, word: u16) -> (u32, State) {
+    let refusal = word_refusal(state, address);
+    if refusal != ACCEPTED {
+        return (refusal, *state);
+    }
+    let mut next = *state;
+    store_word(&mut next, address, word);
+    bus_access(&mut next);
+    (ACCEPTED, next)
+}
+
+/// 1, 2 and 3 as for a byte write, then K6's 8: "a word write elsewhere or to an odd address."
+fn word_refusal(state: &State, address: u32) -> u32 {
+    let even = address % 2 == 0;
+    if !sound(state) {
+        NOT_SOUND
+    } else if !carried(address) {
+        NOT_CARRIED
+    } else if read_only(address) {
+        READ_ONLY
+    } else if !of_a_target(address) || !even {
+        BYTE_OR_WORD
     } else {
         ACCEPTED
     }
@@ -434,7 +473,7 @@ fn bus_access(state: &mut State) {
     state.expired = false;
 }
 
-/// Stores a byte at a carried register that can be written.
+/// Stores a byte at a carried register that takes one.
 fn store(state: &mut State, address: u32, byte: u8) {
     let register = address as usize;
     match register {
@@ -445,10 +484,8 @@ fn store(state: &mut State, address: u32, byte: u8) {
         0x12 => state.mask2 = byte & SIX_BITS,
         0x13 => state.mask1 = byte & SIX_BITS,
         0x14 => state.options = byte & OPTIONS_KEPT,
-        0x40..=0x4B => store_target(state, register, byte),
-        0x50..=0x5B => store_target_count(state, register, byte),
         0x60..=0x65 => state.channels[register - 0x60].window = byte,
-        _ => unreachable!("refused before: not carried or read-only"),
+        _ => unreachable!("refused before: not carried, read-only or of a target"),
     }
 }
 
@@ -490,31 +527,26 @@ fn stop_ramp(channel: &mut Channel) {
     channel.spin = 0;
 }
 
-/// "Each byte of a two-byte target takes effect when it is written." "To either byte of a target
-/// duty: that channel's fault bit and queue count become 0."
-fn store_target(state: &mut State, register: usize, byte: u8) {
-    let index = (register - 0x40) / 2;
+/// Stores a word at the even address of a target. "Both left-justified": what stands below the nine
+/// bits of a duty or the eleven of a count is dropped.
+fn store_word(state: &mut State, address: u32, word: u16) {
+    let register = address as usize;
+    match register {
+        0x40..=0x4B => store_target(state, (register - 0x40) / 2, word >> 7),
+        0x50..=0x5B => state.channels[(register - 0x50) / 2].target_count = word >> 5,
+        _ => unreachable!("refused before: no target"),
+    }
+}
+
+/// A write of a target duty: "that channel's fault bit and queue count become 0."
+fn store_target(state: &mut State, index: usize, duty: u16) {
     let channel = &mut state.channels[index];
-    channel.target = with_byte(channel.target << 7, register, byte) >> 7;
+    channel.target = duty;
     channel.queue = 0;
     state.faults &= !(1 << index);
 }
 
-fn store_target_count(state: &mut State, register: usize, byte: u8) {
-    let channel = &mut state.channels[(register - 0x50) / 2];
-    channel.target_count = with_byte(channel.target_count << 5, register, byte) >> 5;
-}
-
-/// The word with one of its bytes replaced. "Two-byte values have the high byte first": it stands
-/// at the even register.
-fn with_byte(word: u16, register: usize, byte: u8) -> u16 {
-    if register % 2 == 0 {
-        word & 0x00FF | u16::from(byte) << 8
-    } else {
-        word & 0xFF00 | u16::from(byte)
-    }
-}
-
+/// "Two-byte values have the high byte first": it stands at the even register.
 fn byte_of(word: u16, register: usize) -> u8 {
     if register % 2 == 0 {
         (word >> 8) as u8

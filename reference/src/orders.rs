@@ -1,6 +1,6 @@
 //! Order strings by the words of the change request "Orders by the string" (K1): records of whole
 //! numbers, the reader that hands them out and the run that takes them. Sentences in quotation
-//! marks are the request's.
+//! marks are that request's, or those of the one that is named before them.
 
 use crate::console::Call;
 use crate::model::{self, sound, State, ACCEPTED, NOT_SOUND};
@@ -13,8 +13,9 @@ pub const KIND_OR_VALUE: u32 = 13;
 pub const SHORT_BUFFER: u32 = 15;
 
 /// The console's words for the kinds. "Kinds: 0 write (address, value), 1 read (address), 2 ticks
-/// (n), 3 tachometer (channel, count), 4 pin (0 low, 1 high)."
-pub const KINDS: [&str; 5] = ["write", "read", "ticks", "tach", "pin"];
+/// (n), 3 tachometer (channel, count), 4 pin (0 low, 1 high)." K6: "The order string gets kind 5
+/// (even address, word)". Every number from the length of this list on is an unknown kind.
+pub const KINDS: [&str; 6] = ["write", "read", "ticks", "tach", "pin", "word"];
 
 /// A kind, and the numbers that follow it.
 pub type Record = Vec<u32>;
@@ -68,7 +69,8 @@ impl Reader<'_> {
     }
 
     /// The next record as the call that it asks for. "13 for an unknown kind as soon as it is
-    /// read, for a write value or pin once the record is read"
+    /// read, for a write value or pin once the record is read"; K6: "13 also covers a word above
+    /// 65,535."
     pub fn call(&mut self) -> Result<Call, u32> {
         match self.number()? {
             0 => {
@@ -95,6 +97,12 @@ impl Reader<'_> {
                 1 => Ok(Call::Pin { level: true }),
                 _ => Err(KIND_OR_VALUE),
             },
+            5 => {
+                let address = self.number()?;
+                let value = self.number()?;
+                let word = u16::try_from(value).map_err(|_| KIND_OR_VALUE)?;
+                Ok(Call::Word { address, word })
+            }
             _ => Err(KIND_OR_VALUE),
         }
     }

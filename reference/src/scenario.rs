@@ -14,9 +14,7 @@ use crate::model::{
 use crate::orders::{self, Record};
 use crate::random::Random;
 use crate::seen::Seen;
-use crate::states::{
-    flawed_state, random_duty, random_target_count, sound_state, unusual_sound_state, FLAWS,
-};
+use crate::states::{flawed_state, sound_state, unusual_sound_state, FLAWS};
 use crate::strings;
 use crate::text::{call_line, skipped_line, Word};
 
@@ -71,15 +69,16 @@ pub fn scenario(seed: u64, calls: usize) -> Scenario {
 // The drills
 impl Scenario {
     fn drill(&mut self) {
-        let drills: [(u32, Drill); 8] = [
+        let drills: [(u32, Drill); 9] = [
             (112, Scenario::traffic_drill),
-            (16, Scenario::start_drill),
-            (28, Scenario::load_drill),
-            (48, Scenario::flaw_drill),
-            (11, Scenario::speed_drill),
-            (13, Scenario::encode_drill),
-            (224, Scenario::string_drill),
-            (96, Scenario::galley_drill),
+            (48, Scenario::word_drill),
+            (19, Scenario::start_drill),
+            (30, Scenario::load_drill),
+            (54, Scenario::flaw_drill),
+            (14, Scenario::speed_drill),
+            (16, Scenario::encode_drill),
+            (264, Scenario::string_drill),
+            (120, Scenario::galley_drill),
         ];
         let drill = self.random.weighted(&drills);
         drill(self);
@@ -90,11 +89,12 @@ impl Scenario {
 
     /// One of the drills whose calls, but for queries and dumps, have a kind: they can be packed.
     fn traffic_drill(&mut self) {
-        let drills: [(u32, Drill); 7] = [
+        let drills: [(u32, Drill); 8] = [
             (18, Scenario::register_drill),
             (4, Scenario::sweep_drill),
             (16, Scenario::ramp_drill),
             (14, Scenario::spin_up_drill),
+            (12, Scenario::small_duty_drill),
             (14, Scenario::watchdog_drill),
             (25, Scenario::tachometer_drill),
             (12, Scenario::override_drill),
@@ -116,14 +116,16 @@ impl Scenario {
         }
     }
 
-    /// Reads of a row of registers, the gaps in it too, or writes to them.
+    /// Reads of a row of registers, the gaps in it too, or writes of bytes or words to them.
     fn sweep_drill(&mut self) {
         let first = self.random.below(0x6A);
         let last = first + self.random.between(6, 24);
-        let writes = self.random.chance(1, 3);
+        let writes = self.random.below(5);
         for address in first..=last {
-            if writes {
-                self.write_byte_for(address);
+            match writes {
+                0 => self.write_byte_for(address),
+                1 => self.write_word_for(address),
+                _ => {}
             }
             self.make(Call::Read { address });
         }
@@ -178,13 +180,73 @@ impl Scenario {
         }
     }
 
+    /// Words and bytes where they are taken and where they are not, from a state with faults, or
+    /// under a watchdog that counts and expires.
+    fn word_drill(&mut self) {
+        match self.random.below(3) {
+            0 => {
+                let state = unusual_sound_state(&mut self.random);
+                self.make(Call::Load(state));
+            }
+            1 => {
+                let code = self.random.between(1, 3) as u8;
+                self.write(0x00, 0x20 | code << 1);
+            }
+            _ => {}
+        }
+        for _ in 0..self.random.between(4, 10) {
+            match self.random.below(10) {
+                0..=3 => self.write_word_somewhere(),
+                4..=5 => {
+                    self.refused_access();
+                    self.query();
+                }
+                6 => self.write_something(),
+                7 => self.read_something(),
+                8 => self.pass(1),
+                _ => {
+                    let count = choices::span_to_expiry(&mut self.random, &self.state);
+                    self.pass(count);
+                }
+            }
+        }
+    }
+
+    /// A running fan with rate code 0 and a spin-up code gets a small duty in one go: it is there
+    /// after one tick, and no spin-up runs.
+    fn small_duty_drill(&mut self) {
+        let index = self.some_channel();
+        self.clear_overrides(index);
+        if self.channel(index).spin > 0 {
+            // Monitor only for a moment: the shortest way out of a spin-up.
+            self.write(0x02 + index, MONITOR_ONLY);
+        }
+        let code = self.random.between(1, 3) as u8;
+        let others = self.random.pick(&[0x00, TACHOMETER_ENABLED]);
+        let dynamics = self.random.byte() & 0xE2;
+        self.write(0x02 + index, others);
+        self.write(0x08 + index, dynamics);
+        for turn in 0..self.random.between(1, 3) {
+            let large = self.random.between(3, FULL_DUTY.into()) as u16;
+            self.set_duty(index, large);
+            self.make(Call::Ticks { count: 1 });
+            if turn == 0 {
+                self.write(0x02 + index, others | code << 5);
+            }
+            let small = self.random.weighted(&[(6, 1), (2, 2), (1, 0), (1, 3)]);
+            self.set_duty(index, small);
+            self.make(Call::Ticks { count: 1 });
+            self.make(Call::Dump);
+        }
+    }
+
     fn watchdog_drill(&mut self) {
         let code: u8 = self.random.weighted(&[(1, 0), (6, 1), (3, 2), (2, 3)]);
         let others: u8 = self.random.weighted(&[(8, 0x20), (1, 0x28), (1, 0x11)]);
         self.write(0x00, others | code << 1);
         for _ in 0..self.random.between(2, 6) {
             let index = self.some_channel();
-            match self.random.below(15) {
+            match self.random.below(17) {
                 0..=4 => {
                     let count = choices::span_to_expiry(&mut self.random, &self.state);
                     self.pass(count);
@@ -198,6 +260,7 @@ impl Scenario {
                 9 => self.query(),
                 10 => self.flip_pin(),
                 11 => self.result(index),
+                12..=13 => self.write_word_somewhere(),
                 _ => self.some_sample(),
             }
         }
@@ -208,7 +271,7 @@ impl Scenario {
         let index = self.some_channel();
         self.ready_for_results(index);
         for _ in 0..self.random.between(4, 14) {
-            match self.random.below(22) {
+            match self.random.below(23) {
                 0..=6 => self.result(index),
                 7..=9 => self.bad_results(index),
                 10..=11 => self.make(Call::FanFail),
@@ -220,8 +283,9 @@ impl Scenario {
                 14 => self.result_somewhere(),
                 15 => self.write_byte_for(0x14),
                 16 => self.write_byte_for(0x13),
-                17..=18 => self.write_byte_for(0x41 + 2 * index),
-                19 => self.pass_ticks(),
+                17..=18 => self.write_word_for(0x40 + 2 * index),
+                19 => self.write_word_for(0x50 + 2 * index),
+                20 => self.pass_ticks(),
                 _ => self.some_sample(),
             }
         }
@@ -241,11 +305,11 @@ impl Scenario {
         self.write_byte_for(0x13);
         self.write_byte_for(0x14);
         if self.state.fault(index as usize) && self.random.chance(4, 5) {
-            self.write_byte_for(0x41 + 2 * index);
+            self.write_word_for(0x40 + 2 * index);
         }
         if self.channel(index).ramp == 0 && !monitor {
             self.write(0x08 + index, 0x40);
-            self.write(0x40 + 2 * index, 0x64);
+            self.set_duty(index, 200);
             self.pass(2);
         }
     }
@@ -254,7 +318,7 @@ impl Scenario {
     fn override_drill(&mut self) {
         for _ in 0..self.random.between(2, 4) {
             let index = self.some_channel();
-            match self.random.below(10) {
+            match self.random.below(11) {
                 0..=1 => self.flip_pin(),
                 2..=3 => self.write_byte_for(0x00),
                 4 => {
@@ -263,6 +327,7 @@ impl Scenario {
                 }
                 5 => self.write(0x02 + index, 0x3A),
                 6 => self.write_byte_for(0x02 + index),
+                7 => self.write_target(index),
                 _ => self.write_byte_for(0x14),
             }
             if self.random.chance(1, 2) {
@@ -316,9 +381,9 @@ impl Scenario {
         self.next_flaw = (self.next_flaw + 1) % FLAWS.len();
         let (mended, flawed) = flawed_state(&mut self.random, flaw);
         self.make(Call::Load(flawed));
-        let first = self.random.below(13);
+        let first = self.random.below(15);
         for turn in first..first + self.random.between(3, 10) {
-            match turn % 13 {
+            match turn % 15 {
                 0 => self.write_something(),
                 1 => self.read_something(),
                 2 => {
@@ -333,6 +398,7 @@ impl Scenario {
                 8..=9 => self.run_records_for(mended),
                 10 => self.some_sample(),
                 11 => self.galley_call(),
+                12..=13 => self.write_word_somewhere(),
                 _ => self.galley_flaw_drill(),
             }
         }
@@ -512,9 +578,28 @@ impl Scenario {
         self.write(address, byte);
     }
 
+    /// A byte or a word.
     fn write_something(&mut self) {
+        if self.random.chance(2, 5) {
+            self.write_word_somewhere();
+            return;
+        }
         let address = choices::address(&mut self.random);
         self.write_byte_for(address);
+    }
+
+    fn write_word_for(&mut self, address: u32) {
+        let word = choices::word_for(&mut self.random, address);
+        self.make(Call::Word { address, word });
+    }
+
+    /// A word, and for every third one the state after it.
+    fn write_word_somewhere(&mut self) {
+        let address = choices::word_address(&mut self.random);
+        self.write_word_for(address);
+        if self.random.chance(1, 3) {
+            self.make(Call::Dump);
+        }
     }
 
     fn read_something(&mut self) {
@@ -524,10 +609,23 @@ impl Scenario {
 
     /// One that does not feed the watchdog.
     fn refused_access(&mut self) {
-        match self.random.below(4) {
+        match self.random.below(9) {
             0 => self.write(0x11, 0x00),
-            1 => self.write(0x02, 0x80),
+            1 => {
+                let index = self.some_channel();
+                let byte = choices::refused_configuration(&mut self.random);
+                self.write(0x02 + index, byte);
+            }
             2 => self.write(0x66, 0x00),
+            3..=4 => {
+                let target = choices::target_address(&mut self.random);
+                let half = self.random.below(2);
+                self.write_byte_for(target + half);
+            }
+            5..=7 => {
+                let address = choices::address_without_words(&mut self.random);
+                self.write_word_for(address);
+            }
             _ => self.make(Call::Read { address: 0x0E }),
         }
     }
@@ -578,33 +676,29 @@ impl Scenario {
         }
     }
 
-    /// One byte or both of a target duty, now and then with ticks between the two.
     fn write_target(&mut self, index: u32) {
-        let word = random_duty(&mut self.random) << 7 | self.random.below(128) as u16;
+        let word = choices::word_of_duty(&mut self.random);
         self.write_word(0x40 + 2 * index, word);
     }
 
     fn write_target_count(&mut self, index: u32) {
-        let word = random_target_count(&mut self.random) << 5 | self.random.below(32) as u16;
+        let word = choices::word_of_count(&mut self.random);
         self.write_word(0x50 + 2 * index, word);
     }
 
+    /// A target duty, whatever the bits below it.
+    fn set_duty(&mut self, index: u32, duty: u16) {
+        let word = duty << 7 | choices::bits_below(&mut self.random, 1 << 7);
+        self.write_word(0x40 + 2 * index, word);
+    }
+
+    /// A target in one go, and for every fourth one both of its bytes read.
     fn write_word(&mut self, address: u32, word: u16) {
-        let halves = self.random.weighted(&[(6, 3), (2, 2), (1, 1)]);
-        if halves & 2 != 0 {
-            self.write(address, (word >> 8) as u8);
-        }
-        if halves == 3 && self.random.chance(1, 8) {
-            self.pass(1);
-        }
-        if halves & 1 != 0 {
-            self.write(address + 1, word as u8);
-        }
+        self.make(Call::Word { address, word });
         if self.random.chance(1, 4) {
-            self.make(Call::Read { address });
-            self.make(Call::Read {
-                address: address + 1,
-            });
+            for address in [address, address + 1] {
+                self.make(Call::Read { address });
+            }
         }
     }
 
@@ -722,13 +816,36 @@ mod tests {
         let seen = scenario(2, 30_000).seen;
         let runs = &seen.runs;
         assert!(6 * runs.calls() >= seen.calls);
-        for refusal in [0, 1, 2, 3, 4, 5, 10, 11, 12, 13, 15] {
+        for refusal in [0, 1, 2, 3, 4, 5, 8, 10, 11, 12, 13, 15] {
             assert!(runs.answers[refusal] >= 80, "{refusal}");
         }
+        for refusal in [2, 3, 8, 10, 13] {
+            assert!(runs.stopped_at_words[&refusal] >= 15, "{refusal}");
+        }
+        assert!(runs.stopped_at_words[&11] >= 5 && runs.stopped_at_words[&12] >= 5);
         assert!(runs.whole_strings >= 1000 && runs.allowances_used_up >= 500);
         assert!(runs.empty_strings >= 50 && runs.hidden_answers >= 200);
         assert!(runs.records >= 20_000 && runs.most_records >= 300);
         assert!(seen.encodings >= 100);
+    }
+
+    #[test]
+    fn a_scenario_of_some_length_writes_words_of_every_kind() {
+        let seen = scenario(4, 30_000).seen;
+        let words = &seen.words;
+        assert!(15 * words.lines >= seen.calls);
+        assert!(words.duties >= 1500 && words.counts >= 500);
+        assert_eq!(words.targets.len(), 2 * CHANNELS);
+        for refusal in [1, 2, 3, 8] {
+            assert!(words.refused[&refusal] >= 40, "{refusal}");
+        }
+        assert!(words.bytes_refused >= 80 && words.bits_dropped >= 2500);
+        assert!(words.edges.iter().all(|&times| times >= 50));
+        assert!(words.faults_cleared >= 200 && words.queues_cleared >= 400);
+        assert!(words.faults_kept >= 80);
+        assert!(words.expiries_ended >= 80 && words.expiries_kept >= 20);
+        assert!(words.idle_counts_kept >= 20);
+        assert!(words.falls >= 200 && words.falls_to_one >= 100);
     }
 
     #[test]

@@ -1,17 +1,21 @@
 //! What a scenario has met: counted so that one can see that it covers the paper.
 
 mod galley;
+mod words;
 
+use std::collections::BTreeMap;
 use std::fmt;
 
 use crate::choices::SPEED_EDGES;
 use crate::console::{Call, GalleyCall};
 use crate::galley::Galley;
 use crate::model::{
-    bad, deciding_line, judged, sound, Line, State, ACCEPTED, CHANNELS, FULL_COUNT, RESET,
+    bad, deciding_line, judged, sound, Line, State, ACCEPTED, CHANNELS, FULL_COUNT, NOT_SOUND,
+    RESET,
 };
-use crate::orders::{self, Reader, Run};
+use crate::orders::{self, Reader, Run, KINDS, SHORT_BUFFER};
 use galley::SeenGalley;
+use words::SeenWords;
 
 /// The lowest of the counts beside 2,047.
 const NEAR_FULL: u16 = FULL_COUNT - 2;
@@ -21,7 +25,7 @@ pub struct Seen {
     pub calls: usize,
     /// By refusal number, 0 for accepted; dumps, loads, runs, encodings and galley calls are not
     /// counted here.
-    pub answers: [usize; 8],
+    pub answers: [usize; 9],
     pub speeds_stopped: usize,
     pub speeds_too_fast: usize,
     /// Speeds asked for at each of the edges, refused ones too.
@@ -30,6 +34,7 @@ pub struct Seen {
     pub runs: SeenRuns,
     pub galley: SeenGalley,
     // From here on, what single calls did and what the records did that runs took.
+    pub words: SeenWords,
     /// Tachometer results that were not stored, not judged, judged good, judged bad.
     pub results: [usize; 4],
     /// Judged results by target count and then by stored count, both from `NEAR_FULL` to 2,047.
@@ -65,6 +70,8 @@ pub struct SeenRuns {
     pub answer_bytes: usize,
     /// Runs whose last answer is the byte that the buffer holds anyway.
     pub hidden_answers: usize,
+    /// Runs that stopped before the record of a word, by refusal number.
+    pub stopped_at_words: BTreeMap<u32, usize>,
 }
 
 impl Seen {
@@ -95,6 +102,7 @@ impl Seen {
             }
             _ => {
                 self.answers[refusal as usize] += 1;
+                self.words.lines += usize::from(matches!(call, Call::Word { .. }));
                 self.note_effects(call, before, refusal, after);
             }
         }
@@ -148,6 +156,13 @@ impl Seen {
                 self.note_access(before);
                 self.faults_cleared += gained(after.faults, before.faults);
             }
+            Call::Write { .. } => self.words.note_refused_byte(refusal),
+            Call::Word { address, word } if refusal == ACCEPTED => {
+                self.note_access(before);
+                self.faults_cleared += gained(after.faults, before.faults);
+                self.words.note_accepted(address, word, before, after);
+            }
+            Call::Word { .. } => self.words.note_refused(refusal, before),
             Call::Read { .. } if refusal == ACCEPTED => self.note_access(before),
             Call::Tachometer { channel, .. } if refusal == ACCEPTED => {
                 self.note_result(before, after, channel as usize - 1);
@@ -175,6 +190,7 @@ impl Seen {
     fn note_ticks(&mut self, before: &State, count: u32, after: &State) {
         self.expiries += usize::from(!before.expired && after.expired);
         self.clock_wraps += usize::from(before.clock.checked_add(count).is_none());
+        self.words.note_ticks(before, after);
         for index in 0..CHANNELS {
             // No other step leads away from ramp value 0 while spin-up is due, and within one
             // call it is due at the beginning or never.
@@ -205,7 +221,17 @@ impl SeenRuns {
         self.most_records = self.most_records.max(taken);
         self.answer_bytes += answers.len();
         self.hidden_answers += usize::from(answers.last() == Some(&0xA5));
+        let looked_at = ![ACCEPTED, NOT_SOUND, SHORT_BUFFER].contains(&run.refusal);
+        if looked_at && begins_with_word(rest) {
+            *self.stopped_at_words.entry(run.refusal).or_default() += 1;
+        }
     }
+}
+
+/// Every kind is one byte in its shortest form.
+fn begins_with_word(string: &[u8]) -> bool {
+    let kind = string.first().copied().map(usize::from);
+    kind.and_then(|kind| KINDS.get(kind)) == Some(&"word")
 }
 
 /// How many bits are set in `after` and not in `before`.
@@ -257,7 +283,11 @@ impl fmt::Display for SeenRuns {
         let (records, most) = (self.records, self.most_records);
         writeln!(out, "  records taken: {records}, in one run: {most}")?;
         writeln!(out, "  answer bytes: {}", self.answer_bytes)?;
-        writeln!(out, "  runs with A5h last: {}", self.hidden_answers)
+        writeln!(out, "  runs with A5h last: {}", self.hidden_answers)?;
+        for (number, times) in &self.stopped_at_words {
+            writeln!(out, "  runs stopped before a word with {number}: {times}")?;
+        }
+        Ok(())
     }
 }
 
@@ -272,26 +302,8 @@ impl fmt::Display for Seen {
             writeln!(out, "  speeds at count {edge}: {times}")?;
         }
         writeln!(out, "  encodings: {}", self.encodings)?;
-        write!(out, "{}{}", self.runs, self.galley)?;
-        let [ignored, unjudged, good, bad] = self.results;
-        writeln!(
-            out,
-            "  results not stored: {ignored}, not judged: {unjudged}"
-        )?;
-        writeln!(out, "  results judged good: {good}, bad: {bad}")?;
-        for (target, row) in (NEAR_FULL..).zip(self.near_full) {
-            for (count, times) in (NEAR_FULL..).zip(row) {
-                writeln!(
-                    out,
-                    "  results judged at target {target}, count {count}: {times}"
-                )?;
-            }
-        }
-        let (raised, full) = (self.faults_raised, self.faults_at_full_target);
-        writeln!(
-            out,
-            "  faults raised: {raised}, at target count 2047: {full}"
-        )?;
+        write!(out, "{}{}{}", self.runs, self.galley, self.words)?;
+        self.show_results(out)?;
         writeln!(out, "  faults cleared: {}", self.faults_cleared)?;
         writeln!(out, "  FAN_FAIL asserted: {}", self.fan_fail_asserted)?;
         writeln!(out, "  watchdog expiries: {}", self.expiries)?;
@@ -315,5 +327,29 @@ impl fmt::Display for Seen {
             writeln!(out, "  channels passing ticks under {name}: {times}")?;
         }
         Ok(())
+    }
+}
+
+impl Seen {
+    fn show_results(&self, out: &mut fmt::Formatter) -> fmt::Result {
+        let [ignored, unjudged, good, bad] = self.results;
+        writeln!(
+            out,
+            "  results not stored: {ignored}, not judged: {unjudged}"
+        )?;
+        writeln!(out, "  results judged good: {good}, bad: {bad}")?;
+        for (target, row) in (NEAR_FULL..).zip(self.near_full) {
+            for (count, times) in (NEAR_FULL..).zip(row) {
+                writeln!(
+                    out,
+                    "  results judged at target {target}, count {count}: {times}"
+                )?;
+            }
+        }
+        let (raised, full) = (self.faults_raised, self.faults_at_full_target);
+        writeln!(
+            out,
+            "  faults raised: {raised}, at target count 2047: {full}"
+        )
     }
 }

@@ -2,7 +2,7 @@
 //! with. Only inputs are chosen here, no answers.
 
 use crate::choices;
-use crate::orders::{number_bytes, record_bytes, Record};
+use crate::orders::{number_bytes, record_bytes, Record, KINDS};
 use crate::random::Random;
 
 /// With any allowance and room, in plain words, a line has place for so many bytes.
@@ -65,11 +65,11 @@ fn damage(random: &mut Random, string: &mut Vec<u8>) {
 
 /// A record that stops a run, or nearly does.
 fn odd_record(random: &mut Random) -> Vec<u8> {
-    match random.below(24) {
-        0..=9 => record_bytes(&refused_record(random)),
-        10..=12 => record_bytes(&record_out_of_range(random)),
-        13..=15 => record_bytes(&record_of_unknown_kind(random)),
-        16..=22 => record_with_odd_number(random),
+    match random.below(32) {
+        0..=15 => record_bytes(&refused_record(random)),
+        16..=19 => record_bytes(&record_out_of_range(random)),
+        20..=22 => record_bytes(&record_of_unknown_kind(random)),
+        23..=30 => record_with_odd_number(random),
         _ => record_bytes(&any_record(random)),
     }
 }
@@ -82,55 +82,75 @@ fn beginning_of_odd_record(random: &mut Random) -> Vec<u8> {
     bytes
 }
 
-/// Of a call that is refused with 2, 3, 4 or 5.
+/// Of a call that is refused with 2, 3, 4, 5 or 8.
 fn refused_record(random: &mut Random) -> Record {
     let byte = random.byte().into();
-    match random.below(8) {
+    match random.below(16) {
         0 => vec![0, choices::no_register(random), byte],
         1 => vec![1, choices::no_register(random)],
-        2..=3 => {
-            let read_only = random.pick(&[0x10, 0x11, 0x18, 0x23, 0x24, 0x2F, 0x30, 0x3B]);
-            vec![0, read_only, byte]
-        }
-        4..=5 => {
+        2..=3 => vec![0, choices::read_only_register(random), byte],
+        4..=6 => {
             let configuration = random.between(0x02, 0x07);
             let refused = choices::refused_configuration(random);
             vec![0, configuration, refused.into()]
+        }
+        7..=8 => {
+            let target = choices::target_address(random);
+            vec![0, target + random.below(2), byte]
+        }
+        9..=12 => {
+            let address = choices::address_without_words(random);
+            vec![5, address, choices::word_for(random, address).into()]
         }
         _ => vec![3, choices::no_channel(random), random.below(2100)],
     }
 }
 
-/// A write value or a pin level that is too large, or just not; the write may be one that is
-/// refused besides.
+/// A write value, a word or a pin level that is too large, or just not; the write may be one that
+/// is refused besides.
 fn record_out_of_range(random: &mut Random) -> Record {
     let any = random.any();
-    if random.chance(1, 3) {
-        let level = random.pick(&[1, 2, 3, 127, 128, 129, 256, 257, u32::MAX, any]);
-        return vec![4, level];
+    match random.below(3) {
+        0 => {
+            let level = random.pick(&[1, 2, 3, 127, 128, 129, 256, 257, u32::MAX, any]);
+            vec![4, level]
+        }
+        1 => {
+            let address = choices::address(random);
+            vec![0, address, value_about(random, 255)]
+        }
+        _ => {
+            let address = choices::word_address(random);
+            vec![5, address, value_about(random, 65_535)]
+        }
     }
-    let address = choices::address(random);
-    let value = random.pick(&[
-        255,
-        256,
-        256 + any % 256,
-        511,
-        16_384,
-        65_536 + any % 256,
+}
+
+/// The highest value allowed, or a larger one whose lower byte or half alone may be one.
+fn value_about(random: &mut Random, highest: u32) -> u32 {
+    let any = random.any();
+    let allowed = any & highest;
+    random.pick(&[
+        highest,
+        highest + 1,
+        highest + 1 + allowed,
+        2 * highest + 1,
+        (1 << 24) + allowed,
+        (1 << 31) + allowed,
         u32::MAX,
         any,
-    ]);
-    vec![0, address, value]
+    ])
 }
 
 /// Some of these have a low group, byte or half that is a kind.
 fn record_of_unknown_kind(random: &mut Random) -> Record {
-    let kind = random.below(5);
-    let any = random.any().max(5);
+    let kinds = KINDS.len() as u32;
+    let kind = random.below(kinds);
+    let any = random.any().max(kinds);
     let unknown = random.pick(&[
-        5,
-        6,
-        7,
+        kinds,
+        kinds + 1,
+        kinds + 2,
         127,
         128 + kind,
         256 + kind,
@@ -145,16 +165,28 @@ fn record_of_unknown_kind(random: &mut Random) -> Record {
 /// A record of any kind, its numbers in range or not.
 pub fn any_record(random: &mut Random) -> Record {
     let number = choices::number_of_some_length(random);
-    let register = choices::address(random);
-    let byte = choices::byte_for(random, register).into();
-    let address = random.pick(&[register, register, number]);
     let channel = random.between(1, 6);
-    match random.below(5) {
-        0 => vec![0, address, random.pick(&[byte, byte, number])],
-        1 => vec![1, address],
+    match random.below(KINDS.len() as u32) {
+        0 => {
+            let register = choices::address(random);
+            let byte = choices::byte_for(random, register).into();
+            let address = random.pick(&[register, register, number]);
+            vec![0, address, random.pick(&[byte, byte, number])]
+        }
+        1 => {
+            let register = choices::address(random);
+            vec![1, random.pick(&[register, register, number])]
+        }
         2 => vec![2, number],
         3 => vec![3, random.pick(&[channel, channel, number]), number],
-        _ => vec![4, random.pick(&[0, 1, number])],
+        4 => vec![4, random.pick(&[0, 1, number])],
+        5 => {
+            let register = choices::word_address(random);
+            let word = choices::word_for(random, register).into();
+            let address = random.pick(&[register, register, register, number]);
+            vec![5, address, random.pick(&[word, word, number])]
+        }
+        _ => unreachable!("no kind without a record"),
     }
 }
 

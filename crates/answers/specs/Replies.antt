@@ -10,7 +10,7 @@ use Rattle.rules.specs.declared.Speed.{Speed}
 use Rattle.rules.specs.declared.Speed.the-variants.{Rpm, Stopped, TooFast, Refused}
 use Rattle.rules.specs.declared.Reading.{Reading}
 use Rattle.rules.specs.declared.Call.{Call}
-use Rattle.rules.specs.declared.Call.the-variants.{Write, Read, Ticks, Tachometer, Pin}
+use Rattle.rules.specs.declared.Call.the-variants.{Write, Read, Ticks, Tachometer, Pin, WriteWord}
 use Rattle.galley_rules.specs.declared.Galley.{Galley}
 use Rattle.rules.specs.Basics.{flag}
 use Rattle.rules.specs.Start.{startOf}
@@ -22,7 +22,7 @@ use Rattle.text.specs.Ascii.{ascii}
 use Rattle.text.specs.Put.{Put}
 use Rattle.text.specs.Frame.{Frame}
 use Rattle.text.specs.Decimal.{decimalOf}
-use Rattle.image.specs.Image.{numberCount, stateNumbers, number, byteOf, stateFrom}
+use Rattle.image.specs.Image.{numberCount, stateNumbers, number, byteOf, wordOf, stateFrom}
 use Rattle.answers.specs.declared.replies.Hand.{Hand}
 use Rattle.answers.specs.declared.replies.Reply.{Reply}
 use Rattle.answers.specs.Numbers.{answerLine, lineMost, spacedParts}
@@ -43,6 +43,9 @@ pub record Replies (most : ℕ) (text : List ℕ) (next : Hand) (at : ℕ) (befo
 -- ---- the calls, made with the numbers of a line: "`write ADDRESS BYTE`" and so on. "`pin LEVEL` (0 low, 1 high)"
 abbrev pub writeCall : List ℕ → Call
 writeCall v = Write (number v 0) (byteOf (number v 1))
+
+abbrev pub wordCall : List ℕ → Call
+wordCall v = WriteWord (number v 0) (wordOf (number v 1))
 
 abbrev pub readCall : List ℕ → Call
 readCall v = Read (number v 0)

@@ -4,7 +4,7 @@ ghost use Prim.Native.Nat.{_≤_};
 ghost use mathlib.Core.List.{_∷_};
 ghost use lib.ListN.{length};
 ghost use Rattle.text.specs.Put.{Put};
-ghost use Rattle.answers.specs.Replies.{withState, withGalley, Replies, RepliesNumbers, Makes, MakesRead, Starts, TellsFanFail, TellsCabin, TellsSpeed, Dumps, Loads, writeCall, readCall, ticksCall, tachCall, pinCall, startBy, speedBy, readingText, readingMost, cabinText, cabinMost};
+ghost use Rattle.answers.specs.Replies.{withState, withGalley, Replies, RepliesNumbers, Makes, MakesRead, Starts, TellsFanFail, TellsCabin, TellsSpeed, Dumps, Loads, writeCall, wordCall, readCall, ticksCall, tachCall, pinCall, startBy, speedBy, readingText, readingMost, cabinText, cabinMost};
 use crate::line::put_line;
 use crate::line::put_part;
 use crate::line::put_parts;
@@ -14,6 +14,7 @@ use image::flag;
 use image::numbers_of;
 use image::state_of;
 use image::value;
+use image::word;
 use rules::ACCEPTED;
 use rules::Answer;
 use rules::Call;
@@ -97,6 +98,17 @@ pub fn write_reply(hand: Hand, values: &[u32], out: &mut [u8], at: usize) -> Rep
     call_reply(
         hand,
         Call::Write(value(values, 0), byte(values, 1)),
+        out,
+        at,
+    )
+}
+
+pub fn word_reply(hand: Hand, values: &[u32], out: &mut [u8], at: usize) -> Reply
+    ensures { λ r. ⌜ Makes hand at (now (out .entry)) (now (out .exit)) r (wordCall (now (values .entry))) ⌝ }
+{
+    call_reply(
+        hand,
+        Call::WriteWord(value(values, 0), word(values, 1)),
         out,
         at,
     )

@@ -80,7 +80,7 @@ fn storing(refusal: u8, state: State) -> Given {
     }
 }
 
-// One call, by its letter: 0, 1 or very many ticks; a read; a write of standby or of a target; a result; a FAN_FAIL query.
+// One call, by its letter: 0, 1 or very many ticks; a read; a write of standby or of a window; a result; a FAN_FAIL query.
 fn call(state: State, letter: u8) -> Given {
     if letter == b'0' {
         return passing(state, 0);
@@ -99,7 +99,7 @@ fn call(state: State, letter: u8) -> Given {
         return storing(answer.refusal, answer.state);
     }
     if letter == b'W' {
-        let answer = write::write(state, 0x4B, 0x80);
+        let answer = write::write(state, 0x65, 0x12);
         return storing(answer.refusal, answer.state);
     }
     if letter == b'T' {

@@ -1,4 +1,4 @@
-// Takes one sample many times, or makes the twelve writes of a sample that changes every target, for counting instructions: bench/count
+// Takes one sample many times, or makes the six writes of a sample that changes every target, for counting instructions: bench/count
 // runs it. Two letters of input choose which, and are the bytes of the table. It stands apart from `bench`, so that no call there is laid
 // out otherwise.
 use galley_rules::Galley;
@@ -26,15 +26,14 @@ fn sampling(galley: Galley, state: State, table: &[u8]) -> Given {
     }
 }
 
-// The same duty to each of the six targets, the high byte first.
+// The same duty to each of the six targets.
 fn writing(state: State, table: &[u8]) -> Given {
-    let high = first_of(table);
+    let word = first_of(table) as u16 * 256;
     let mut next = state;
     let mut i: u32 = 0;
     while i < 6 {
-        let half = write::write(next, 0x40 + 2 * i, high);
-        let whole = write::write(half.state, 0x41 + 2 * i, 0);
-        next = whole.state;
+        let written = write_word::write_word(next, 0x40 + 2 * i, word);
+        next = written.state;
         i += 1;
     }
     Given {

@@ -9,15 +9,15 @@ const TIMES: u32 = 1000;
 
 // Sixteen calls of every kind.
 const LISTED: [Call; 16] = [
-    Call::Write(0x40, 0x64),
-    Call::Write(0x41, 0x00),
+    Call::WriteWord(0x40, 0x6400),
+    Call::Write(0x08, 0x50),
     Call::Write(0x02, 0x28),
     Call::Read(0x30),
     Call::Ticks(512),
     Call::Tachometer(1, 480),
     Call::Read(0x11),
     Call::Pin(true),
-    Call::Write(0x4A, 0xC8),
+    Call::WriteWord(0x4A, 0xC800),
     Call::Read(0x3A),
     Call::Ticks(1),
     Call::Tachometer(6, 2047),
@@ -33,7 +33,7 @@ struct Given {
     state: State,
 }
 
-// Puts the calls four times over as a string: 64 records of 180 bytes.
+// Puts the calls four times over as a string: 64 records of 192 bytes.
 fn put_64(string: &mut [u8]) {
     let calls = LISTED;
     let mut at: usize = 0;
@@ -50,7 +50,7 @@ fn widened(byte: u8) -> u32 {
 
 // The 64 records in one run.
 fn running(state: State, string: &[u8]) -> Given {
-    let mut answers = [0u8; 180];
+    let mut answers = [0u8; 192];
     let ran = orders::run(state, string, 64, &mut answers);
     let next = ran.state;
     Given {
@@ -103,7 +103,7 @@ fn sum_of(state: State, letter: u8, string: &[u8]) -> u64 {
 fn main() {
     let mut text = [0u8; 1];
     io::read_full(STDIN_FILENO, &mut text);
-    let mut string = [0u8; 180];
+    let mut string = [0u8; 192];
     put_64(&mut string);
     let begun = start::start(0, 0, 511, 0x11);
     // Once first: with two places that call it, `call` stays a function that can be counted in.

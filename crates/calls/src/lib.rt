@@ -31,5 +31,10 @@ pub fn make(state: State, call: Call) -> ReadAnswer
             count,
         )),
         Call::Pin(high) => without_byte(pin::set_pin(state, high)),
+        Call::WriteWord(address, word) => without_byte(write_word::write_word(
+            state,
+            address,
+            word,
+        )),
     }
 }

@@ -3,3 +3,4 @@ pub mod Queue
 pub mod Elapsed
 pub mod Trials
 pub mod Stopped
+pub mod InOneGo

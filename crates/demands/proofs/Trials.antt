@@ -1,18 +1,18 @@
 -- The paper's trials hold, for every state and channel that begins so, and there is one for each.
-use Prim.Native.Nat.{ℕ, zero, suc, _+_, _-_, _*_, _/_, _%_, _≤_, _<_}
+use Prim.Native.Nat.{ℕ, zero, suc, _+_, _-_, _*_, _/_, _≤_, _<_}
 use mathlib.Core.Path.{_≡_, refl, sym, _∙_, ap}
 use mathlib.Core.Bool.{Bool, true, false, not, _&&_, false≢true, Bool·beq}
 use mathlib.Core.List.{List, [], _∷_, map}
 use native.Mathlib.Omega.{arith}
 use lib.Dec.{leb, ltb, eqb}
 use lib.ListN.{length, take, replicate, length-map}
-use borrow.Author.Tests.{lt-ltb, le-ltb, eq-eqb, ne-eqb, eqb-false}
-use Rattle.demands.specs.Types.{Channel, Results, State, Conditions, Duty, Answer, StatusRegister, Count, Output, ReadOnly}
+use borrow.Author.Tests.{lt-ltb, le-ltb, eq-eqb, eqb-false}
+use Rattle.demands.specs.Types.{Channel, Results, State, Conditions, Answer, StatusRegister, Count, Output, ReadOnly}
 use Rattle.rules.specs.Basics.{flag}
 use Rattle.rules.specs.State.{channel, registers, startValues, withSettings, withMotion, withChannels, withRegisters}
 use Rattle.rules.specs.Registers.{spinCode, rateCode, asymmetric, tachometerEnabled}
 use Rattle.rules.specs.Words.{countWord, outputWord, wordByte}
-use Rattle.rules.specs.Map.{isLow, placeAt, statusAt}
+use Rattle.rules.specs.Map.{placeAt, statusAt}
 use Rattle.rules.specs.Time.{watchdogLimit, spinTicks, ratePeriod}
 use Rattle.rules.specs.Duty.{conditionsOf, overrideBy, outputDuty}
 use Rattle.rules.specs.Valid.{validChannel, validRegisters, validStart, validTimer, validOf}
@@ -29,6 +29,7 @@ use Rattle.laws.proofs.ChannelTicks.{channelTicks, ticks-ramp, ticks-due-past, 
 use Rattle.laws.proofs.StateTicks.{counting, ahead, ticks-ahead, clockAt, expiring-ticks}
 use Rattle.demands.proofs.Elapsed.{channel-ahead, duty-ahead}
 use Rattle.laws.proofs.Keep.{passed-valid, passed-refused}
+use Rattle.laws.proofs.Targets.{low-of}
 use Rattle.demands.proofs.Queue.{channel-after, still-six, faultAfter, Ready, runs}
 
 -- the state that a call leaves, from a valid one
@@ -120,10 +121,6 @@ module _ (s : State) (c : Watched 1 s) where
 read-status : (s : State) (a : ℕ) (r : StatusRegister) → validOf s ≡ true → placeAt a ≡ ReadOnly r → readOf s a .byte ≡ statusByte s r
 unfolding readOf readAt placeByte
 read-status s a r v here = rw (v, here) refl
-
-low-of : (i n : ℕ) (low : Bool) → n ≡ 2 * i + flag low → isLow n ≡ low
-low-of i n true e = eq-eqb (n % 2) 1 (omega arith)
-low-of i n false e = let ne : n % 2 ≡ 1 → ⊥ = λ z. omega arith in ne-eqb (n % 2) 1 ne
 
 -- the bytes of channel i's output duty and of its count
 output-place : (i a : ℕ) (low : Bool) → i < 6 → a ≡ 0x30 + 2 * i + flag low → placeAt a ≡ ReadOnly (Output i low)

@@ -2,3 +2,4 @@
 pub mod Types
 pub mod Elapsed
 pub mod Trials
+pub mod InOneGo

@@ -6,14 +6,16 @@ use native.Mathlib.Omega.{arith}
 use lib.Dec.{leb}
 use borrow.Author.Tests.{leb-true}
 use Rattle.table.specs.declared.Verb.{Verb}
-use Rattle.table.specs.declared.Verb.the-variants.{Start, Write, Read, Ticks, Tach, Pin, Cabin, FanFail, Speed, Dump, Load, Show, Chart, Run, Decode, Galley, Help}
+use Rattle.table.specs.declared.Verb.the-variants.{Device, Cabin, FanFail, Speed, Dump, Load, Show, Chart, Run, Decode, Galley, Help}
+use Rattle.table.specs.declared.DeviceVerb.{DeviceVerb}
+use Rattle.table.specs.declared.DeviceVerb.the-variants as device
 use Rattle.commands.specs.declared.Parsed.the-variants.{Call}
-use Rattle.table.specs.Table.{commands, longestOf}
+use Rattle.table.specs.Table.{commands, longestOfDevice, longestOf}
 use Rattle.commands.specs.Commands.{parsedOf}
 use Rattle.commands.proofs.Called.{called-tested}
 use Rattle.answers.specs.declared.replies.Hand.{Hand}
 use Rattle.answers.specs.declared.replies.Reply.{Reply}
-use Rattle.dispatch.specs.Answers.{longestAnswer, Answers}
+use Rattle.dispatch.specs.Answers.{longestAnswer, AnswersDevice, Answers}
 use Rattle.galley_dispatch.proofs.Lengths.{galley-long}
 
 -- the longest answer of every row is at most the room
@@ -22,13 +24,17 @@ unfolding commands
 room words e = leb-true _ _ (called-tested (λ verb. leb (longestOf verb) longestAnswer) refl words e)
 
 module _ (hand : Hand) (at : ℕ) (before after : List ℕ) (reply : Reply) where
+  device-long : (verb : DeviceVerb) (v : List ℕ) → AnswersDevice hand at before after reply verb v → reply .at ≤ at + longestOfDevice verb
+  device-long device.Start v a = a .within
+  device-long device.Write v a = a .within
+  device-long device.Word v a = a .within
+  device-long device.Read v a = a .within
+  device-long device.Ticks v a = a .within
+  device-long device.Tach v a = a .within
+  device-long device.Pin v a = a .within
+
   pub row-long : (verb : Verb) (v bytes : List ℕ) → Answers hand at before after reply verb v bytes → reply .at ≤ at + longestOf verb
-  row-long Start v bytes a = a .within
-  row-long Write v bytes a = a .within
-  row-long Read v bytes a = a .within
-  row-long Ticks v bytes a = a .within
-  row-long Tach v bytes a = a .within
-  row-long Pin v bytes a = a .within
+  row-long (Device verb) v bytes a = device-long verb v a
   row-long Cabin v bytes a = a .within
   row-long FanFail v bytes a = a .within
   row-long Speed v bytes a = a .within

@@ -6,7 +6,9 @@ use lib.Seq.{sets}
 use Rattle.image.specs.Image.{numberCount, number}
 use Rattle.text.specs.Words.{wordsOf}
 use Rattle.table.specs.declared.Verb.{Verb}
-use Rattle.table.specs.declared.Verb.the-variants.{Start, Write, Read, Ticks, Tach, Pin, Cabin, FanFail, Speed, Dump, Load, Show, Chart, Run, Decode, Galley, Help}
+use Rattle.table.specs.declared.Verb.the-variants.{Device, Cabin, FanFail, Speed, Dump, Load, Show, Chart, Run, Decode, Galley, Help}
+use Rattle.table.specs.declared.DeviceVerb.{DeviceVerb}
+use Rattle.table.specs.declared.DeviceVerb.the-variants as device
 use Rattle.table.specs.declared.Kind.{Kind}
 use Rattle.commands.specs.declared.Parsed.{Parsed}
 use Rattle.commands.specs.declared.Parsed.the-variants.{Call, Encode, Wrong}
@@ -14,7 +16,7 @@ use Rattle.table.specs.Table.{longestOf}
 use Rattle.commands.specs.Commands.{parsedOf, valuesOf, lineBytes, bytesOf, orderBy}
 use Rattle.answers.specs.declared.replies.Hand.{Hand}
 use Rattle.answers.specs.declared.replies.Reply.{Reply}
-use Rattle.answers.specs.Replies.{Makes, MakesRead, Starts, TellsFanFail, TellsCabin, TellsSpeed, Dumps, Loads, Shows, writeCall, readCall, ticksCall, tachCall, pinCall}
+use Rattle.answers.specs.Replies.{Makes, MakesRead, Starts, TellsFanFail, TellsCabin, TellsSpeed, Dumps, Loads, Shows, writeCall, wordCall, readCall, ticksCall, tachCall, pinCall}
 use Rattle.order_text.specs.Replies.{Runs, Encodes}
 use Rattle.galley_dispatch.specs.Answers.{AnswersGalley}
 
@@ -27,14 +29,19 @@ longestAnswer = 43_079
 
 -- what is in hand, the index that the answer begins at, the buffer before and after, and the reply
 module _ (hand : Hand) (at : ℕ) (before after : List ℕ) (reply : Reply) where
+  -- the answer to a command of the device, and what is in hand after it
+  abbrev pub AnswersDevice : DeviceVerb → List ℕ → Type 0
+  AnswersDevice device.Start v = Starts hand at before after reply v
+  AnswersDevice device.Write v = Makes hand at before after reply (writeCall v)
+  AnswersDevice device.Word v = Makes hand at before after reply (wordCall v)
+  AnswersDevice device.Read v = MakesRead hand at before after reply (readCall v)
+  AnswersDevice device.Ticks v = Makes hand at before after reply (ticksCall v)
+  AnswersDevice device.Tach v = Makes hand at before after reply (tachCall v)
+  AnswersDevice device.Pin v = Makes hand at before after reply (pinCall v)
+
   -- a command's answer, and what is in hand after it
   abbrev pub Answers : Verb → List ℕ → List ℕ → Type 0
-  Answers Start v bytes = Starts hand at before after reply v
-  Answers Write v bytes = Makes hand at before after reply (writeCall v)
-  Answers Read v bytes = MakesRead hand at before after reply (readCall v)
-  Answers Ticks v bytes = Makes hand at before after reply (ticksCall v)
-  Answers Tach v bytes = Makes hand at before after reply (tachCall v)
-  Answers Pin v bytes = Makes hand at before after reply (pinCall v)
+  Answers (Device verb) v bytes = AnswersDevice verb v
   Answers Cabin v bytes = TellsCabin hand at before after reply
   Answers FanFail v bytes = TellsFanFail hand at before after reply
   Answers Speed v bytes = TellsSpeed hand at before after reply v

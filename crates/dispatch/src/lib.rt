@@ -1,7 +1,7 @@
 // A line's command, and the function that answers it.
 ghost use Prim.Native.Nat.{_+_, _≤_};
 ghost use Rattle.answers.specs.Replies.{Shows};
-ghost use Rattle.dispatch.specs.Answers.{longestError, longestAnswer, Answers, AnswersRecord, AnswersLine};
+ghost use Rattle.dispatch.specs.Answers.{longestError, longestAnswer, AnswersDevice, Answers, AnswersRecord, AnswersLine};
 use answers::replies::Hand;
 use answers::replies::Reply;
 use answers::replies::cabin_reply;
@@ -15,6 +15,7 @@ use answers::replies::speed_reply;
 use answers::replies::start_reply;
 use answers::replies::tach_reply;
 use answers::replies::ticks_reply;
+use answers::replies::word_reply;
 use answers::replies::write_reply;
 use chart::put_chart;
 use commands::LINE_BYTES;
@@ -31,8 +32,24 @@ use order_text::decoded::put_decoded;
 use order_text::replies::encode_reply;
 use order_text::replies::run_reply;
 use show::put_show;
+use table::DeviceVerb;
 use table::Kind;
 use table::Verb;
+
+// Answers a command of the device with the values of its line.
+fn device_reply(verb: DeviceVerb, hand: Hand, values: &[u32], out: &mut [u8], at: usize) -> Reply
+    ensures { λ r. ⌜ AnswersDevice hand at (now (out .entry)) (now (out .exit)) r verb (now (values .entry)) ⌝ }
+{
+    match verb {
+        DeviceVerb::Start => start_reply(hand, values, out, at),
+        DeviceVerb::Write => write_reply(hand, values, out, at),
+        DeviceVerb::Word => word_reply(hand, values, out, at),
+        DeviceVerb::Read => read_reply(hand, values, out, at),
+        DeviceVerb::Ticks => ticks_reply(hand, values, out, at),
+        DeviceVerb::Tach => tach_reply(hand, values, out, at),
+        DeviceVerb::Pin => pin_reply(hand, values, out, at),
+    }
+}
 
 // Answers a command with the values and the bytes of its line.
 fn reply_to(
@@ -46,12 +63,7 @@ fn reply_to(
     ensures { λ r. ⌜ Answers hand at (now (out .entry)) (now (out .exit)) r verb (now (values .entry)) (now (bytes .entry)) ⌝ }
 {
     match verb {
-        Verb::Start => start_reply(hand, values, out, at),
-        Verb::Write => write_reply(hand, values, out, at),
-        Verb::Read => read_reply(hand, values, out, at),
-        Verb::Ticks => ticks_reply(hand, values, out, at),
-        Verb::Tach => tach_reply(hand, values, out, at),
-        Verb::Pin => pin_reply(hand, values, out, at),
+        Verb::Device(verb) => device_reply(verb, hand, values, out, at),
         Verb::Cabin => cabin_reply(hand, out, at),
         Verb::FanFail => fan_fail_reply(hand, out, at),
         Verb::Speed => speed_reply(hand, values, out, at),

@@ -11,6 +11,7 @@ use strings::READ;
 use strings::TACHOMETER;
 use strings::TICKS;
 use strings::WRITE;
+use strings::WRITE_WORD;
 use text::put::put;
 
 // The record of a call.
@@ -23,6 +24,7 @@ pub fn order_of(call: Call) -> Order
         Call::Ticks(ticks) => Order::Ticks(ticks),
         Call::Tachometer(channel, count) => Order::Tachometer(channel, count),
         Call::Pin(high) => Order::Pin(high as u32),
+        Call::WriteWord(address, word) => Order::WriteWord(address, word as u32),
     }
 }
 
@@ -78,5 +80,6 @@ pub fn encode(order: Order, out: &mut [u8], at: usize) -> usize
         Order::Ticks(ticks) => put_numbers(&[TICKS, ticks], out, at),
         Order::Tachometer(channel, count) => put_numbers(&[TACHOMETER, channel, count], out, at),
         Order::Pin(level) => put_numbers(&[PIN, level], out, at),
+        Order::WriteWord(address, word) => put_numbers(&[WRITE_WORD, address, word], out, at),
     }
 }

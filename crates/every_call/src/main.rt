@@ -47,7 +47,9 @@ fn passed(letters: [u8; 18]) -> State {
         letters[3],
     );
     let written = write::write(begun.state, six_bits(letters[4]), letters[5]);
-    let once = ticks::pass_ticks(written.state, six_bits(letters[6]));
+    let address = 0x40 + (letters[11] % 64) as u32;
+    let aimed = write_word::write_word(written.state, address, (letters[2] % 64) as u16 * 128);
+    let once = ticks::pass_ticks(aimed.state, six_bits(letters[6]));
     let spans = [six_bits(letters[6]), six_bits(letters[7])];
     ticks::pass_each(once.state, &spans).state
 }

@@ -21,9 +21,9 @@ use galley_rules::TEMPERATURE_OUT_OF_RANGE;
 use rules::ACCEPTED;
 use rules::STATE_NOT_VALID;
 use rules::State;
+use write_word::write_word;
 
-// Writes a duty to those of the six targets that differ, from channel 1 up, the high byte of each first. No write is refused where the
-// state is valid.
+// Writes a duty to those of the six targets that differ, from channel 1 up, a word each. No write is refused where the state is valid.
 fn drive(state: State, duty: u16) -> State
     ensures { λ r. ⌜ r ≡ afterEach state (callsFrom duty 0 (targets state)) ⌝ }
 {
@@ -35,9 +35,8 @@ fn drive(state: State, duty: u16) -> State
         let at = i;
         i += 1;
         if channels[at].target != duty {
-            let high = write::write(next, 0x40 + 2 * at as u32, (word / 256) as u8);
-            let low = write::write(high.state, 0x41 + 2 * at as u32, (word % 256) as u8);
-            next = low.state;
+            let written = write_word(next, 0x40 + 2 * at as u32, word);
+            next = written.state;
         }
     }
     next

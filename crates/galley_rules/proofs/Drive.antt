@@ -16,12 +16,12 @@ use Rattle.rules.specs.State.{blank}
 use Rattle.rules.specs.Calls.{accepted}
 use Rattle.rules.specs.Valid.{validOf}
 use Rattle.rules.specs.Start.{startOf}
-use Rattle.rules.specs.Make.{afterEach, targets, targetCalls}
+use Rattle.rules.specs.Make.{made, afterEach, targets, targetCall}
 use Rattle.rules.proofs.Tests.{choice, every-at}
 use Rattle.laws.proofs.Each.{map-at, length-before}
 use Rattle.laws.proofs.Kept.{start-valid}
-use Rattle.laws.proofs.Keep.{each-valid, each-none, each-on, AllAccepted, accepted-none, accepted-on}
-use Rattle.laws.proofs.Targets.{start-targets, target-calls-accepted, target-calls-set}
+use Rattle.laws.proofs.Keep.{calls-keep, each-none, each-first, AllAccepted, accepted-none, accepted-first}
+use Rattle.laws.proofs.Targets.{start-targets, target-call-accepted, target-call-set}
 use Rattle.galley_rules.specs.Types.{State, Call, Galley}
 use Rattle.galley_rules.specs.Temperature.{inRange, rowOf}
 use Rattle.galley_rules.specs.Galley.{validGalley, freshOf}
@@ -68,17 +68,18 @@ module _ (duty : ℕ) (small : duty < 512) where
       let all : i ≡ 6 = omega (arith, counted s i [] six are) in
       (ap targets (each-none s) ∙ are ∙ nothing-after i duty ∙ ap (λ n. replicate n duty) all, accepted-none s)
   drives (t ∷ ts) i s v six are =
-      choice (λ calls. Drives s (calls ++ callsFrom duty (suc i) ts)) (eqb t duty) [] (targetCalls i duty)
+      choice (Drives s) (eqb t duty) _ _
       (λ same. drives ts (suc i) s v six (are ∙ ap (λ x. replicate i duty ++ (x ∷ ts)) (eqb-true t duty same) ∙ one-more i duty ts))
       (λ other.
-      let next = afterEach s (targetCalls i duty) in
+      let call = targetCall i duty in
+      let next = made s call .state in
       let below : i < 6 = omega (arith, counted s i (t ∷ ts) six are) in
-      let told = target-calls-set s i duty v below six small in
+      let told = target-call-set s i duty v below small in
       let long = sym (length-map (next .channels) _) ∙ ap (λ l. length l) told ∙ length-set (targets s) i duty ∙ length-map (s .channels) _ ∙ six in
-      let rest = drives ts (suc i) next (each-valid s (targetCalls i duty) v) long
+      let rest = drives ts (suc i) next (calls-keep s call .valid v) long
       (told ∙ ap (λ l. set l i duty) are ∙ set-next i duty t ts ∙ one-more i duty ts) in (
-        ap targets (each-on s (targetCalls i duty) (callsFrom duty (suc i) ts)) ∙ rest .0,
-        accepted-on s (targetCalls i duty) (callsFrom duty (suc i) ts) (target-calls-accepted s i duty v below) (rest .1),
+        ap targets (each-first s call (callsFrom duty (suc i) ts)) ∙ rest .0,
+        accepted-first s call (callsFrom duty (suc i) ts) (target-call-accepted s i duty v below) (rest .1),
       ))
 
 -- a loop over the channels: what is left to do before and after the one with index i
@@ -86,21 +87,22 @@ module _ (duty : ℕ) (channels : List Channel) where
   abbrev pub leftFrom : ℕ → List Call
   leftFrom i = callsFrom duty i (drop i (map (λ ch. ch .target) channels))
 
-  left-after : (s : State) (i : ℕ) → i < length channels →
-      afterEach (afterEach s (if eqb (getD channels i blank .target) duty then [] else targetCalls i duty)) (leftFrom (i + 1)) ≡ afterEach s (leftFrom i)
+  left-here : (i : ℕ) → i < length channels →
+      leftFrom i ≡ (if eqb (getD channels i blank .target) duty then leftFrom (i + 1) else targetCall i duty ∷ leftFrom (i + 1))
   unfolding callsFrom
-  left-after s i h =
+  left-here i h =
       let ts = map (λ ch. ch .target) channels in
       let front = drop-cons ts i 0 (rw length-map h) ∙ ap (λ t. t ∷ drop (suc i) ts) (map-at (λ ch. ch .target) channels i blank 0 h) in
-      rw add-one (sym (ap (λ l. afterEach s (callsFrom duty i l)) front ∙ each-on s _ _))
+      rw add-one (ap (callsFrom duty i) front)
 
   pub left-written : (s : State) (i : ℕ) → i < length channels → (getD channels i blank .target ≡ duty → ⊥) →
-      afterEach (afterEach s (targetCalls i duty)) (leftFrom (i + 1)) ≡ afterEach s (leftFrom i)
-  left-written s i h other = rw (ne-eqb (getD channels i blank .target) duty other) at (left-after s i h)
+      afterEach (made s (targetCall i duty) .state) (leftFrom (i + 1)) ≡ afterEach s (leftFrom i)
+  left-written s i h other =
+      sym (ap (afterEach s) (rw (ne-eqb (getD channels i blank .target) duty other) at (left-here i h)) ∙ each-first s (targetCall i duty) (leftFrom (i + 1)))
 
   pub left-right : (s : State) (i : ℕ) → i < length channels → getD channels i blank .target ≡ duty →
       afterEach s (leftFrom (i + 1)) ≡ afterEach s (leftFrom i)
-  left-right s i h same = rw (eq-eqb (getD channels i blank .target) duty same, each-none) at (left-after s i h)
+  left-right s i h same = sym (ap (afterEach s) (rw (eq-eqb (getD channels i blank .target) duty same) at (left-here i h)))
 
   pub left-none : (s : State) (i : ℕ) → length channels ≤ i → afterEach s (leftFrom i) ≡ s
   unfolding callsFrom

@@ -1,14 +1,14 @@
 -- A sample of the temperature: the row that it leaves, ALERT and SHDN, and the target duties that it writes.
 use Prim.Native.Nat.{ℕ, suc, min, max}
 use mathlib.Core.Bool.{Bool, false, not}
-use mathlib.Core.List.{List, [], _∷_, _++_}
+use mathlib.Core.List.{List, [], _∷_}
 use lib.Dec.{eqb}
 use lib.IntN.{ℤ, pos, _+ℤ_}
 use lib.Signed.{ltZ}
 use Rattle.rules.specs.Basics.{if_then_else_}
 use Rattle.rules.specs.Calls.{accepted, stateNotValid}
 use Rattle.rules.specs.Valid.{validOf}
-use Rattle.rules.specs.Make.{afterEach, targets, targetCalls}
+use Rattle.rules.specs.Make.{afterEach, targets, targetCall}
 use Rattle.galley_rules.specs.Types.{State, Call, Galley, SampleAnswer}
 use Rattle.galley_rules.specs.Temperature.{inRange, rowOf}
 use Rattle.galley_rules.specs.Galley.{temperatureOutOfRange, withSample, eighthsOf, validGalley}
@@ -18,11 +18,13 @@ use Rattle.galley_rules.specs.Table.{noTable, areTables, inForce, rowDut
 unfoldable pub rowAfter : ℕ → ℤ → ℕ → ℕ
 rowAfter row t h = max (min row (rowOf (t +ℤ pos h))) (rowOf t)
 
--- "A sample writes, from channel 1 up, only those of the six target duties that differ": from the channel with index i on, whose
--- targets these are
+-- "A sample writes, from channel 1 up, only those of the six target duties that differ", since K6 a word each: from the channel with
+-- index i on, whose targets these are
 unfoldable pub callsFrom : ℕ → ℕ → List ℕ → List Call
 callsFrom duty i [] = []
-callsFrom duty i (target ∷ targets) = (if eqb target duty then [] else targetCalls i duty) ++ callsFrom duty (suc i) targets
+callsFrom duty i (target ∷ targets) =
+    let others = callsFrom duty (suc i) targets in
+    if eqb target duty then others else targetCall i duty ∷ others
 
 abbrev pub sampleAnswer : ℕ → Bool → Bool → Galley → State → SampleAnswer
 sampleAnswer refusal alert shutdown g s =

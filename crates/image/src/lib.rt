@@ -216,7 +216,7 @@ pub fn byte(values: &[u32], i: usize) -> u8
     (value(values, i) % 256) as u8
 }
 
-fn word(values: &[u32], i: usize) -> u16
+pub fn word(values: &[u32], i: usize) -> u16
     ensures { λ r. ⌜ r ≡ wordOf (number (now (values .entry)) i) ⌝ }
 {
     (value(values, i) % 65536) as u16

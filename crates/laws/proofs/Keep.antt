@@ -2,23 +2,25 @@
 use Prim.Native.Nat.{ℕ}
 use mathlib.Core.Path.{_≡_, refl}
 use mathlib.Core.Bool.{true, false}
-use mathlib.Core.List.{List, [], _∷_, _++_}
+use mathlib.Core.List.{List, [], _∷_}
 use lib.Dec.{eqb}
+use borrow.Author.Tests.{eq-eqb}
 use Rattle.rules.specs.Basics.{every}
 use Rattle.rules.specs.Map.{settingAt, placeAt, isCarried}
-use Rattle.rules.specs.Calls.{accepted, stateNotValid, readOnly, answer}
+use Rattle.rules.specs.Calls.{accepted, stateNotValid, readOnly, answer, unlessRefused}
 use Rattle.rules.specs.Valid.{validChannel, validRegisters, validStart, validTimer, validOf, ifValid}
 use Rattle.rules.specs.Time.{watchdogLimit}
 use Rattle.rules.specs.Start.{zeroState}
-use Rattle.rules.specs.Write.{writeRefusal, writeAt, writeOf}
+use Rattle.rules.specs.Write.{writeRefusal, writeOf}
+use Rattle.rules.specs.WriteWord.{wordRefusal, writeWordOf}
 use Rattle.rules.specs.Read.{readAt, readOf}
 use Rattle.rules.specs.Tick.{tick, iterate, ticksPassed}
 use Rattle.rules.specs.Tachometer.{isChannel, resultOf}
 use Rattle.rules.specs.Pin.{pinOf}
 use Rattle.rules.specs.Make.{made, madeEach, afterEach, Keeps}
-use Rattle.rules.proofs.Tests.{choice, and-left, and-right, and-both}
-use Rattle.laws.proofs.Types.{State, Answer, ReadAnswer, Call, Write, Read, Ticks, Tachometer, Pin}
-use Rattle.laws.proofs.Kept.{write-valid, read-valid}
+use Rattle.rules.proofs.Tests.{choice}
+use Rattle.laws.proofs.Types.{State, Answer, ReadAnswer, Call, Write, Read, Ticks, Tachometer, Pin, WriteWord}
+use Rattle.laws.proofs.Kept.{write-valid, write-word-valid, read-valid}
 use Rattle.laws.proofs.Results.{result-valid, pin-valid}
 use Rattle.laws.proofs.TickValid.{iterate-valid}
 
@@ -49,11 +51,16 @@ accepted-same : (s after : State) → SameAnswer s (answer accepted after)
 accepted-same s after refused = absurd (refused refl)
 
 module _ (s : State) where
+  same-unless-refused : (refusal : ℕ) (next : State) → SameAnswer s (unlessRefused refusal s next)
+  same-unless-refused refusal next = choice (SameAnswer s) (eqb refusal accepted) _ _ (λ e. accepted-same s next) (λ e refused. refl)
+
   write-same : (a b : ℕ) → SameAnswer s (writeOf s a b)
-  unfolding writeOf writeAt
-  write-same a b =
-      same-if-valid s _
-      (choice (SameAnswer s) (eqb (writeRefusal (placeAt a) b) accepted) _ _ (λ e. accepted-same s _) (λ e refused. refl))
+  unfolding writeOf
+  write-same a b = same-if-valid s _ (same-unless-refused (writeRefusal (placeAt a) b) _)
+
+  write-word-same : (a word : ℕ) → SameAnswer s (writeWordOf s a word)
+  unfolding writeWordOf
+  write-word-same a word = same-if-valid s _ (same-unless-refused (wordRefusal (placeAt a)) _)
 
   read-same : (a : ℕ) → Same s (readOf s a .refusal) (readOf s a .state)
   unfolding readOf readAt
@@ -86,10 +93,12 @@ calls-keep s (Pin high) =
       refused = (unfold pinOf in same-if-valid s _ (accepted-same s _));
       valid = λ v. pin-valid s v high;
     }
+calls-keep s (WriteWord a word) =
+    record { refused = write-word-same s a word; valid = λ v. write-word-valid s v a word }
 
 -- a valid state and a call that it refuses: a write to 11h, which can only be read
 pub kept-example : (validOf zeroState ≡ true) × (made zeroState (Write 0x11 0) .refusal ≡ readOnly)
-unfolding made writeOf writeAt writeRefusal placeAt settingAt validOf validRegisters validStart validTimer validChannel watchdogLimit
+unfolding made writeOf writeRefusal placeAt settingAt validOf validRegisters validStart validTimer validChannel watchdogLimit
 kept-example = (refl, refl)
 
 -- and so after a list of them
@@ -98,17 +107,16 @@ unfolding afterEach
 each-valid s [] v = v
 each-valid s (call ∷ calls) v = each-valid (made s call .state) calls (calls-keep s call .valid v)
 
--- no calls; one list of calls after another
+-- no calls; a first one, and others after it
 pub each-none : (s : State) → afterEach s [] ≡ s
 unfolding afterEach
 each-none s = refl
 
-pub each-on : (s : State) (calls others : List Call) → afterEach s (calls ++ others) ≡ afterEach (afterEach s calls) others
+pub each-first : (s : State) (call : Call) (calls : List Call) → afterEach s (call ∷ calls) ≡ afterEach (made s call .state) calls
 unfolding afterEach
-each-on s [] others = refl
-each-on s (call ∷ calls) others = each-on (made s call .state) calls others
+each-first s call calls = refl
 
--- each call of a list is accepted: of none, and of one list after another
+-- each call of a list is accepted: of none, and of a first one and others after it
 abbrev pub AllAccepted : State → List Call → Type 0
 AllAccepted s calls = every (λ a. eqb (a .refusal) accepted) (madeEach s calls) ≡ true
 
@@ -116,10 +124,6 @@ pub accepted-none : (s : State) → AllAccepted s []
 unfolding madeEach
 accepted-none s = refl
 
-pub accepted-on : (s : State) (calls others : List Call) → AllAccepted s calls → AllAccepted (afterEach s calls) others → AllAccepted s (calls ++ others)
-unfolding madeEach afterEach
-accepted-on s [] others e f = f
-accepted-on s (call ∷ calls) others e f =
-    let one = eqb (made s call .refusal) accepted in
-    let rest = every (λ a. eqb (a .refusal) accepted) (madeEach (made s call .state) calls) in
-    and-both one _ (and-left one rest e) (accepted-on (made s call .state) calls others (and-right one rest e) f)
+pub accepted-first : (s : State) (call : Call) (calls : List Call) → made s call .refusal ≡ accepted → AllAccepted (made s call .state) calls → AllAccepted s (call ∷ calls)
+unfolding madeEach
+accepted-first s call calls e rest = rw (eq-eqb (made s call .refusal) accepted e) rest

@@ -1,4 +1,4 @@
--- Start gives a valid state, and read and write keep a valid state valid.
+-- Start gives a valid state, and read and both writes keep a valid state valid.
 use Prim.Native.Nat.{ℕ, _+_, _*_, _/_, _%_, _<_}
 use mathlib.Core.Path.{_≡_, refl, _∙_, ap}
 use mathlib.Core.Bool.{Bool, true, false, not, _||_, Bool·beq, or-true}
@@ -6,19 +6,21 @@ use mathlib.Core.List.{List, map, map-id}
 use native.Mathlib.Omega.{arith}
 use native.Mathlib.Nat.{mod-lt}
 use lib.Dec.{leb, ltb, eqb, lit<}
+use lib.ListN.{set}
 use borrow.Author.Tests.{lt-ltb, eqb-true}
-use Rattle.laws.proofs.Types.{Channel, Registers, StartValues, Timer, State, BoxRegister, Control, Frequency, Mask2, Mask1, Options, ChannelRegister, Config, Dynamics, Target, TargetCount, Window, Place, Absent, ReadOnly, Shared, Own, Answer, ReadAnswer}
+use Rattle.laws.proofs.Types.{Channel, Registers, StartValues, Timer, State, BoxRegister, Control, Frequency, Mask2, Mask1, Options, ChannelRegister, Config, Dynamics, Window, WordRegister, Target, TargetCount, Place, Absent, ReadOnly, Shared, Own, OwnWord, Answer, ReadAnswer}
 use Rattle.rules.specs.Basics.{_implies_, every, bit, bits}
 use Rattle.rules.specs.State.{channel, withSettings, withChannels, withRegisters, registers, startValues, timer}
 use Rattle.rules.specs.Registers.{standby, watchdogCode, monitorOnly, controlKept, dynamicsKept, maskKept, optionsKept, configRefused, targetCount}
-use Rattle.rules.specs.Words.{withByte, dutyWord, countWord}
+use Rattle.rules.specs.Words.{shownIn}
 use Rattle.rules.specs.Time.{watchdogLimit}
 use Rattle.rules.specs.Map.{placeAt, isCarried}
 use Rattle.rules.specs.Valid.{validMotion, validChannel, validRegisters, validStart, validTimer, validOf}
 use Rattle.rules.specs.Start.{startChannel, asAtStart, zeroState, startOf}
-use Rattle.rules.specs.Write.{stopped, channelWritten, byteRefusal, reset, boxWritten, ownWritten, written, writeRefusal, writeAt, writeOf}
+use Rattle.rules.specs.Write.{stopped, channelWritten, reset, boxWritten, written, writeRefusal, writeOf}
+use Rattle.rules.specs.WriteWord.{targetWritten, wordWritten, wordRefusal, writeWordOf}
 use Rattle.rules.specs.Read.{afterRead, readAt, readOf}
-use Rattle.rules.specs.Calls.{accepted, accessed}
+use Rattle.rules.specs.Calls.{accepted, unlessRefused, accessed}
 use Rattle.rules.proofs.Tests.{by-test, same, choice, and-left, and-both, allBelow, all-below, every-set, every-map, every-replicate}
 use Rattle.laws.proofs.Valid.{parts, valid-of-parts, ChannelParts, channel-parts, parts-of-channel, valid-of-channel-parts, settings-parts, registers-parts, valid-of-registers-parts, start-target-lt, four, of-four}
 
@@ -117,17 +119,18 @@ stopped-motion : (held : Bool) (ch : Channel) → validMotion held (stopped ch) 
 stopped-motion true ch = refl
 stopped-motion false ch = refl
 
-config-allowed : (b : ℕ) → byteRefusal Config b ≡ accepted → not (configRefused b) ≡ true
-config-allowed b e =
+config-allowed : (b i : ℕ) → writeRefusal (Own Config i) b ≡ accepted → not (configRefused b) ≡ true
+unfolding writeRefusal
+config-allowed b i e =
     by-test (configRefused b) (λ on. absurd (omega (arith, rw on at e))) (λ off. rw off refl)
 
-channel-written : (inStandby : Bool) (ch : Channel) (b : ℕ) (r : ChannelRegister) → byteRefusal r b ≡ accepted →
+channel-written : (inStandby : Bool) (ch : Channel) (b i : ℕ) (r : ChannelRegister) → writeRefusal (Own r i) b ≡ accepted →
     ChannelParts inStandby ch → ChannelParts inStandby (channelWritten ch b r)
 unfolding channelWritten
-channel-written inStandby ch b Config e p =
+channel-written inStandby ch b i Config e p =
     let q = settings-parts ch (p .settings) in
     let next = withSettings ch b (ch .dynamics) (ch .window) (ch .target) (targetCount ch) in
-    let settings = of-four (not (configRefused b)) _ _ _ (config-allowed b e) (q .dynamics) (q .target) (q .target-count) in
+    let settings = of-four (not (configRefused b)) _ _ _ (config-allowed b i e) (q .dynamics) (q .target) (q .target-count) in
     choice (ChannelParts inStandby) (bit 4 b) (stopped next) next
     (λ on. record { settings = settings; results = p .results; motion = stopped-motion (inStandby || bit 4 b) next })
     (λ off. record {
@@ -135,30 +138,32 @@ channel-written inStandby ch b Config e p =
       results = p .results;
       motion = rw off (looser-motion _ (inStandby || false) ch (without-right inStandby (monitorOnly (ch .config))) (p .motion));
     })
-channel-written inStandby ch b Dynamics e p =
+channel-written inStandby ch b i Dynamics e p =
     let q = settings-parts ch (p .settings) in
     record {
       settings = of-four _ _ _ _ (q .config) (dynamics-again b) (q .target) (q .target-count);
       results = p .results;
       motion = p .motion;
     }
-channel-written inStandby ch b (Target low) e p =
+channel-written inStandby ch b i Window e p = record { settings = p .settings; results = p .results; motion = p .motion }
+
+-- the number that a word shows is below the limit of its width
+target-written : (inStandby : Bool) (ch : Channel) (word : ℕ) (r : WordRegister) → ChannelParts inStandby ch → ChannelParts inStandby (targetWritten ch word r)
+unfolding targetWritten
+target-written inStandby ch word Target p =
     let q = settings-parts ch (p .settings) in
-    let small = mod-lt (withByte low (dutyWord (ch .target)) b / 128) {m = 512} (lit< tt) in
     record {
-      settings = of-four _ _ _ _ (q .config) (q .dynamics) (lt-ltb _ 512 small) (q .target-count);
+      settings = of-four _ _ _ _ (q .config) (q .dynamics) (lt-ltb (shownIn 9 word) 512 (mod-lt (word / 128) (lit< tt))) (q .target-count);
       results = and-both (ltb (ch .count) 2048) _ (and-left (ltb (ch .count) 2048) _ (p .results)) refl;
       motion = p .motion;
     }
-channel-written inStandby ch b (TargetCount low) e p =
+target-written inStandby ch word TargetCount p =
     let q = settings-parts ch (p .settings) in
-    let small = mod-lt (withByte low (countWord (targetCount ch)) b / 32) {m = 2048} (lit< tt) in
     record {
-      settings = of-four _ _ _ _ (q .config) (q .dynamics) (q .target) (lt-ltb _ 2048 small);
+      settings = of-four _ _ _ _ (q .config) (q .dynamics) (q .target) (lt-ltb (shownIn 11 word) 2048 (mod-lt (word / 32) (lit< tt)));
       results = p .results;
       motion = p .motion;
     }
-channel-written inStandby ch b Window e p = record { settings = p .settings; results = p .results; motion = p .motion }
 
 -- ---- as at start
 
@@ -261,29 +266,46 @@ box-written s b Options f =
 
 -- ---- a channel's register
 
-own-written : (s : State) (b i : ℕ) (r : ChannelRegister) → byteRefusal r b ≡ accepted → Fed s → Fed (ownWritten s b r i)
-own-written s b i r e f =
+-- one channel becomes another that is valid where it was
+own-fed : (s : State) (i : ℕ) (next : Channel) → Fed s →
+    (let inStandby = standby (s .registers .control) in ChannelParts inStandby (channel s i) → ChannelParts inStandby next) →
+    Fed (withChannels s (set (s .channels) i next))
+own-fed s i next f kept =
     let inStandby = standby (s .registers .control) in
-    let before = parts-of-channel inStandby (s .channels) i (f .channels) in
-    let after = valid-of-channel-parts inStandby _ (channel-written inStandby (channel s i) b r e before) in
-    rebuilt-fed s (s .registers) _ (f .registers) (every-set (validChannel inStandby) (s .channels) i _ after (f .channels)) f
+    let after = valid-of-channel-parts inStandby next (kept (parts-of-channel inStandby (s .channels) i (f .channels))) in
+    rebuilt-fed s (s .registers) _ (f .registers) (every-set (validChannel inStandby) (s .channels) i next after (f .channels)) f
 
 -- ---- the calls
 
 module _ (s : State) (valid : validOf s ≡ true) where
+  -- a write, of a byte or of a word
+  unless-refused-valid : (refusal : ℕ) (next : State) → (refusal ≡ accepted → Fed next) → validOf (unlessRefused refusal s next .state) ≡ true
+  unless-refused-valid refusal next fed =
+      choice (λ (x : Answer). validOf (x .state) ≡ true) (eqb refusal accepted) _ _ (λ e. fed-valid next (fed (eqb-true _ _ e))) (λ e. valid)
+
   written-fed : (b : ℕ) (p : Place) → writeRefusal p b ≡ accepted → Fed (written (accessed s) b p)
-  unfolding written writeRefusal
-  written-fed b Absent e = absurd (omega (arith, e))
-  written-fed b (ReadOnly r) e = absurd (omega (arith, e))
+  unfolding written
+  written-fed b Absent e = accessed-fed s valid
+  written-fed b (ReadOnly r) e = accessed-fed s valid
   written-fed b (Shared r) e = box-written (accessed s) b r (accessed-fed s valid)
-  written-fed b (Own r i) e = own-written (accessed s) b i r e (accessed-fed s valid)
+  written-fed b (Own r i) e = own-fed (accessed s) i _ (accessed-fed s valid) (channel-written _ (channel s i) b i r e)
+  written-fed b (OwnWord r i low) e = accessed-fed s valid
+
+  word-written-fed : (word : ℕ) (p : Place) → Fed (wordWritten (accessed s) word p)
+  unfolding wordWritten
+  word-written-fed word Absent = accessed-fed s valid
+  word-written-fed word (ReadOnly r) = accessed-fed s valid
+  word-written-fed word (Shared r) = accessed-fed s valid
+  word-written-fed word (Own r i) = accessed-fed s valid
+  word-written-fed word (OwnWord r i low) = own-fed (accessed s) i _ (accessed-fed s valid) (target-written _ (channel s i) word r)
 
   pub write-valid : (a b : ℕ) → validOf (writeOf s a b .state) ≡ true
-  unfolding writeOf writeAt
-  write-valid a b =
-      rw valid
-      (choice (λ (x : Answer). validOf (x .state) ≡ true) (eqb (writeRefusal (placeAt a) b) accepted) _ _
-      (λ e. fed-valid _ (written-fed b (placeAt a) (eqb-true _ _ e))) (λ e. valid))
+  unfolding writeOf
+  write-valid a b = rw valid (unless-refused-valid _ _ (written-fed b (placeAt a)))
+
+  pub write-word-valid : (a word : ℕ) → validOf (writeWordOf s a word .state) ≡ true
+  unfolding writeWordOf
+  write-word-valid a word = rw valid (unless-refused-valid (wordRefusal (placeAt a)) _ (λ e. word-written-fed word (placeAt a)))
 
   after-read-valid : (a : ℕ) → validOf (afterRead s a) ≡ true
   after-read-valid a =

@@ -4,9 +4,8 @@ use mathlib.Core.Path.{_≡_}
 use mathlib.Core.Bool.{true, false}
 use borrow.Author.Tests.{eq-eqb, ne-eqb}
 use Rattle.rules.specs.Map.{placeAt, isCarried}
-use Rattle.rules.specs.Calls.{accepted, stateNotValid, notCarried, answer, readAnswer, accessed}
+use Rattle.rules.specs.Calls.{accepted, stateNotValid, notCarried, answer, readAnswer, unlessRefused}
 use Rattle.rules.specs.Valid.{validOf, ifValid}
-use Rattle.rules.specs.Write.{written, writeRefusal, writeOf, writeAt}
 use Rattle.rules.specs.Read.{placeByte, afterRead, readAt, readOf}
 use Rattle.laws.proofs.Types.{State, Answer, ReadAnswer}
 
@@ -18,17 +17,15 @@ module _ (s : State) (given : Answer) where
   pub is-valid : (r : Answer) → validOf s ≡ true → r ≡ given → r ≡ ifValid s given
   is-valid r good e = rw good e
 
+-- refused with a number, or else accepted
+module _ (s next : State) (refusal by : ℕ) (r : Answer) (is : refusal ≡ by) where
+  pub is-refused : (refusal ≡ accepted → ⊥) → r ≡ answer refusal s → r ≡ unlessRefused by s next
+  is-refused other e = rw (← is, ne-eqb refusal accepted other) e
+
+  pub is-accepted : refusal ≡ accepted → r ≡ answer accepted next → r ≡ unlessRefused by s next
+  is-accepted same e = rw (← is, eq-eqb refusal accepted same) e
+
 module _ (s : State) (a : ℕ) where
-  pub write-refused : (b : ℕ) (r : Answer) (refusal : ℕ) → validOf s ≡ true → refusal ≡ writeRefusal (placeAt a) b →
-      (refusal ≡ accepted → ⊥) → r ≡ answer refusal s → r ≡ writeOf s a b
-  unfolding writeOf writeAt
-  write-refused b r refusal valid is other e = rw (valid, ← is, ne-eqb refusal accepted other) e
-
-  pub write-accepted : (b : ℕ) (r : Answer) (refusal : ℕ) → validOf s ≡ true → refusal ≡ writeRefusal (placeAt a) b →
-      refusal ≡ accepted → r ≡ answer accepted (written (accessed s) b (placeAt a)) → r ≡ writeOf s a b
-  unfolding writeOf writeAt
-  write-accepted b r refusal valid is same e = rw (valid, ← is, eq-eqb refusal accepted same) e
-
   pub read-not-valid : (r : ReadAnswer) → validOf s ≡ false → r ≡ readAnswer stateNotValid 0 s → r ≡ readOf s a
   unfolding readOf
   read-not-valid r bad e = rw bad e

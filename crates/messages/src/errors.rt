@@ -72,7 +72,7 @@ pub fn put_error(reason: Reason, line: u32, out: &mut [u8], at: usize) -> usize
             )
         }
         Reason::NoRecord => put_form(
-            b"error: line #: word 2 is no call with a record: write, read, ticks, tach or pin\n",
+            b"error: line #: word 2 is no call with a record: write, word, read, ticks, tach or pin\n",
             &[line],
             out,
             at,

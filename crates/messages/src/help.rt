@@ -3,7 +3,7 @@ ghost use Rattle.text.specs.Frame.{Frame};
 use form::put_text;
 
 pub fn put_help(out: &mut [u8], at: usize) -> usize
-    ensures { λ r. ⌜ Frame 2138 at (now (out .entry)) (now (out .exit)) r ⌝ }
+    ensures { λ r. ⌜ Frame 2213 at (now (out .entry)) (now (out .exit)) r ⌝ }
 {
     put_text(
         b"A command, and what it answers. Numbers are decimal, or hexadecimal after 0x.
@@ -12,6 +12,7 @@ A signed number is decimal, with - before it where it is below 0. NORMAL QUIET a
 two tables, STRINGs of 48 bytes.
 start WATCHDOG SPINUP TARGET FREQUENCY  refusal; 0 is accepted, here and below
 write ADDRESS BYTE                      refusal
+word ADDRESS WORD                       refusal; a target, in one go
 read ADDRESS                            refusal, byte
 ticks N                                 refusal; a tick is 1/512 s
 tach CHANNEL COUNT                      refusal
@@ -24,7 +25,7 @@ load NUMBERS                            ok; the state is made of these 68 number
 show                                    the state for a person to read
 chart TICKS                             the duties over the next TICKS ticks, drawn
 run STRING ALLOWANCE ROOM               refusal, records taken, answer bytes, the buffer of ROOM bytes
-encode CALL                             a write, read, ticks, tach or pin as its record, in bytes
+encode CALL                             a write, word, read, ticks, tach or pin as its record, in bytes
 decode STRING                           the records of STRING for a person to read
 gfresh HIGH OVER HYSTERESIS QUIET       refusal; signed thresholds in 1/8 C, 0 or 1 for 2 C or 4 C, 1 for quiet
 gsample T NORMAL QUIET                  refusal, ALERT, SHDN; T is signed, in 1/8 C

@@ -38,6 +38,9 @@ fn put_record(index: u32, call: Call, out: &mut [u8], at: usize) -> usize
             put_form(b"# tach # #\n", &[index, channel, count], out, at)
         }
         Call::Pin(high) => put_form(b"# pin #\n", &[index, high as u32], out, at),
+        Call::WriteWord(address, word) => {
+            put_form(b"# word # #\n", &[index, address, word as u32], out, at)
+        }
     }
 }
 

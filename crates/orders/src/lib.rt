@@ -33,6 +33,7 @@ fn is_read(call: Call) -> bool
         Call::Ticks(_) => false,
         Call::Tachometer(_, _) => false,
         Call::Pin(_) => false,
+        Call::WriteWord(_, _) => false,
     }
 }
 

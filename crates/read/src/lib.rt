@@ -3,7 +3,7 @@ ghost use mathlib.Core.Path.{_≡_};
 ghost use Prim.Native.Nat.{_<_};
 ghost use Rattle.rules.specs.Map.{isCarried, statusIndex, indexOf};
 ghost use Rattle.rules.specs.Calls.{readAnswer};
-ghost use Rattle.rules.specs.Read.{boxByte, channelByte, statusByte, placeByte, afterRead, readOf};
+ghost use Rattle.rules.specs.Read.{boxByte, channelByte, targetWord, statusByte, placeByte, afterRead, readOf};
 use device::duty::conditions;
 use device::duty::fault_byte;
 use device::duty::output_duty;
@@ -21,6 +21,7 @@ use rules::ReadAnswer;
 use rules::STATE_NOT_VALID;
 use rules::State;
 use rules::StatusRegister;
+use rules::WordRegister;
 use words::count_word;
 use words::duty_word;
 use words::output_word;
@@ -44,9 +45,16 @@ fn channel_byte(channel: Channel, register: ChannelRegister) -> u8
     match register {
         ChannelRegister::Config => channel.config,
         ChannelRegister::Dynamics => channel.dynamics,
-        ChannelRegister::Target(low) => word_byte(duty_word(channel.target), low),
-        ChannelRegister::TargetCount(low) => word_byte(count_word(channel.target_count), low),
         ChannelRegister::Window => channel.window,
+    }
+}
+
+fn target_word(channel: Channel, register: WordRegister) -> u16
+    ensures { λ r. ⌜ r ≡ targetWord channel register ⌝ }
+{
+    match register {
+        WordRegister::Target => duty_word(channel.target),
+        WordRegister::TargetCount => count_word(channel.target_count),
     }
 }
 
@@ -89,6 +97,7 @@ fn is_carried(place: Place) -> bool
         Place::ReadOnly(_) => true,
         Place::Shared(_) => true,
         Place::Own(_, _) => true,
+        Place::OwnWord(_, _, _) => true,
     }
 }
 
@@ -102,6 +111,10 @@ fn place_byte(state: State, place: Place) -> u8
         Place::ReadOnly(register) => status_byte(state, register),
         Place::Shared(register) => box_byte(state, register),
         Place::Own(register, i) => channel_byte(state.channels[i], register),
+        Place::OwnWord(register, i, low) => word_byte(
+            target_word(state.channels[i], register),
+            low,
+        ),
     }
 }
 

@@ -4,7 +4,7 @@ ghost use Prim.Native.Nat.{_≤_, _<_, _*_, _^_};
 ghost use Rattle.strings.specs.Number.{groupOf};
 ghost use Rattle.strings.specs.Record.{begun, kindOf, numberOf, HalfRead, stepOf};
 ghost use Rattle.strings.specs.String.{recordAt};
-ghost use Rattle.strings.specs.declared.Stage.the-variants.{WriteByte, PinLevel};
+ghost use Rattle.strings.specs.declared.Stage.the-variants.{WriteByte, PinLevel, WordValue};
 use rules::Call;
 use strings::Found;
 use strings::Group;
@@ -20,6 +20,7 @@ use strings::Step;
 use strings::TACHOMETER;
 use strings::TICKS;
 use strings::WRITE;
+use strings::WRITE_WORD;
 
 fn next_group(groups: u32, value: u32, byte: u32) -> Group
     requires { ⌜ (groups ≤ 4) × (value < 2 ^ (7 * groups)) × (byte < 256) ⌝ }
@@ -73,6 +74,9 @@ fn take_kind(kind: u32) -> Step
     if kind == PIN {
         return Step::More(begin(Stage::PinLevel));
     }
+    if kind == WRITE_WORD {
+        return Step::More(begin(Stage::WordAddress));
+    }
     Step::Refused(NO_RECORD)
 }
 
@@ -94,6 +98,15 @@ fn take_level(level: u32) -> Step
     Step::Refused(NO_RECORD)
 }
 
+fn take_word(address: u32, word: u32) -> Step
+    ensures { λ r. ⌜ r ≡ numberOf (WordValue address) word ⌝ }
+{
+    if word < 65536 {
+        return Step::Whole(Call::WriteWord(address, word as u16));
+    }
+    Step::Refused(NO_RECORD)
+}
+
 // What a whole number makes of a record.
 fn take_number(stage: Stage, number: u32) -> Step
     ensures { λ r. ⌜ r ≡ numberOf stage number ⌝ }
@@ -107,6 +120,8 @@ fn take_number(stage: Stage, number: u32) -> Step
         Stage::ResultChannel => Step::More(begin(Stage::ResultCount(number))),
         Stage::ResultCount(channel) => Step::Whole(Call::Tachometer(channel, number)),
         Stage::PinLevel => take_level(number),
+        Stage::WordAddress => Step::More(begin(Stage::WordValue(number))),
+        Stage::WordValue(address) => take_word(address, number),
     }
 }
 

@@ -6,6 +6,7 @@ use rules::BoxRegister;
 use rules::ChannelRegister;
 use rules::Place;
 use rules::StatusRegister;
+use rules::WordRegister;
 
 fn setting_at(a: u32) -> Place
     ensures { λ r. ⌜ r ≡ settingAt a ⌝ }
@@ -67,14 +68,14 @@ fn target_at(a: u32) -> Place
 {
     if a < 0x4C {
         let n = a - 0x40;
-        return Place::Own(ChannelRegister::Target(n % 2 == 1), (n / 2) as usize);
+        return Place::OwnWord(WordRegister::Target, (n / 2) as usize, n % 2 == 1);
     }
     if a < 0x50 {
         return Place::Absent;
     }
     if a < 0x5C {
         let n = a - 0x50;
-        return Place::Own(ChannelRegister::TargetCount(n % 2 == 1), (n / 2) as usize);
+        return Place::OwnWord(WordRegister::TargetCount, (n / 2) as usize, n % 2 == 1);
     }
     if a < 0x60 {
         return Place::Absent;

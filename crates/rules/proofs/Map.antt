@@ -1,15 +1,15 @@
--- The map carries just the paper's 85 registers, just its read-only ones are read-only, and a channel's index is below 6.
-use Prim.Native.Nat.{ℕ, zero, suc, _+_, _<_, _≤_}
+-- The map carries just the paper's 85 registers, and those that refusals ask for are just the listed ones; a channel's index is below 6.
+use Prim.Native.Nat.{ℕ, zero, suc, _+_, _%_, _<_, _≤_}
 use mathlib.Core.Path.{_≡_, refl, sym, _∙_, ap}
 use mathlib.Core.Bool.{Bool, true, false, _&&_, Bool·beq, and-false}
 use mathlib.Core.List.{List, [], _∷_}
 use native.Mathlib.Omega.{arith}
 use native.Mathlib.Decide.{decLt}
-use lib.Dec.{ltb}
+use lib.Dec.{ltb, eqb}
 use borrow.Author.Tests.{ltb-true, ltb-false, lt-leb}
 use Rattle.rules.specs.Types.{Place, Absent}
 use Rattle.rules.specs.Basics.{if_then_else_, flag, every}
-use Rattle.rules.specs.Map.{settingAt, statusAt, targetAt, placeAt, Row, among, carriedRows, readOnlyRows, isCarried, isReadOnly, indexOf}
+use Rattle.rules.specs.Map.{settingAt, statusAt, targetAt, placeAt, indexOf, isCarried, isReadOnly, isTarget, isFirst, isConfig, Row, among, carriedRows, readOnlyRows, targetRows, configRows}
 use Rattle.rules.proofs.Tests.{choice, and-left, and-right, same, allBelow, all-below}
 
 -- what holds of every rung of the map
@@ -65,25 +65,7 @@ place-rung a = below a _ _ _ (λ h. setting-rung a) λ _. below a _ _ _ (λ h. s
 pub place-below-six : (a : ℕ) → indexOf (placeAt a) < 6
 place-below-six a = place-rung a .small
 
--- ---- the paper's lists
-
--- what is carried, and what can only be read, is just what the paper lists
-pub record AsListed (a : ℕ) : Type 0 where
-  pub carried : isCarried (placeAt a) ≡ among carriedRows a
-  pub read-only : isReadOnly (placeAt a) ≡ among readOnlyRows a
-
--- how many numbers below n pass a test
-abbrev pub countBelow : ℕ → (ℕ → Bool) → ℕ
-countBelow zero test = 0
-countBelow (suc n) test = flag (test n) + countBelow n test
-
-abbrev listedTest : ℕ → Bool
-listedTest a =
-    Bool·beq (isCarried (placeAt a)) (among carriedRows a) && Bool·beq (isReadOnly (placeAt a)) (among readOnlyRows a)
-
-bytes-listed : allBelow 256 listedTest ≡ true
-unfolding placeAt settingAt statusAt targetAt
-bytes-listed = refl
+-- ---- the papers' lists
 
 -- no row goes past 65h
 past : (rows : List Row) → every (λ row. ltb (row .last) 0x66) rows ≡ true → (a : ℕ) → 0x66 ≤ a → among rows a ≡ false
@@ -92,24 +74,39 @@ past (row ∷ rows) e a h =
     let l : row .last < a = omega (arith, ltb-true (row .last) 0x66 (and-left (ltb (row .last) 0x66) _ e)) in
     rw (lt-leb a (row .last) l, and-false, past rows (and-right (ltb (row .last) 0x66) _ e) a h)
 
-pub map-as-listed : (a : ℕ) → AsListed a
-map-as-listed a = elim (decLt a 256) [ yes l ↦ byte l | no g ↦ above (omega arith) ]
-  where
-    byte : a < 256 → AsListed a
-    byte l =
-        let e = all-below 256 listedTest bytes-listed a l in
-        record {
-          carried = same _ _ (and-left _ _ e);
-          read-only = same _ _ (and-right (Bool·beq (isCarried (placeAt a)) (among carriedRows a)) _ e);
-        }
+-- what is asked of the place is just what is listed of the address: by a test of every byte, as nothing stands above
+module _ (asked : Place → Bool) (listed : ℕ → Bool) (none : asked Absent ≡ false) (nothing : (a : ℕ) → 0x66 ≤ a → listed a ≡ false)
+    (bytes : allBelow 256 (λ a. Bool·beq (asked (placeAt a)) (listed a)) ≡ true) where
+  as-listed : (a : ℕ) → asked (placeAt a) ≡ listed a
+  as-listed a =
+      elim (decLt a 256) [
+        | yes l ↦ same _ _ (all-below 256 (λ n. Bool·beq (asked (placeAt n)) (listed n)) bytes a l)
+        | no g ↦ ap asked (place-rung a .beyond (omega arith)) ∙ none ∙ sym (nothing a (omega arith))
+      ]
 
-    above : 256 ≤ a → AsListed a
-    above h =
-        let p : placeAt a ≡ Absent = place-rung a .beyond (omega arith) in
-        record {
-          carried = ap isCarried p ∙ sym (past carriedRows refl a (omega arith));
-          read-only = ap isReadOnly p ∙ sym (past readOnlyRows refl a (omega arith));
-        }
+-- what is carried, what can only be read, the targets, of them the even addresses, and the fan configurations
+pub record AsListed (a : ℕ) : Type 0 where
+  pub carried : isCarried (placeAt a) ≡ among carriedRows a
+  pub read-only : isReadOnly (placeAt a) ≡ among readOnlyRows a
+  pub target : isTarget (placeAt a) ≡ among targetRows a
+  pub first : isFirst (placeAt a) ≡ (among targetRows a && eqb (a % 2) 0)
+  pub config : isConfig (placeAt a) ≡ among configRows a
+
+pub map-as-listed : (a : ℕ) → AsListed a
+unfolding placeAt settingAt statusAt targetAt
+map-as-listed a =
+    record {
+      carried = as-listed isCarried (among carriedRows) refl (past carriedRows refl) refl a;
+      read-only = as-listed isReadOnly (among readOnlyRows) refl (past readOnlyRows refl) refl a;
+      target = as-listed isTarget (among targetRows) refl (past targetRows refl) refl a;
+      first = as-listed isFirst (λ n. among targetRows n && eqb (n % 2) 0) refl (λ n h. rw (past targetRows refl n h) refl) refl a;
+      config = as-listed isConfig (among configRows) refl (past configRows refl) refl a;
+    }
+
+-- how many numbers below n pass a test
+abbrev pub countBelow : ℕ → (ℕ → Bool) → ℕ
+countBelow zero test = 0
+countBelow (suc n) test = flag (test n) + countBelow n test
 
 -- "There are 85", and none above
 pub carries-85 : countBelow 256 (λ a. isCarried (placeAt a)) ≡ 85

@@ -1,14 +1,14 @@
 -- A duty or a count and the register word that shows it convert both ways without loss.
 use Prim.Native.Nat.{ℕ, _+_, _-_, _*_, _/_, _%_, _^_, _<_, _≤_}
 use mathlib.Core.Path.{_≡_, sym, _∙_, ap}
-use mathlib.Core.Bool.{Bool, true, false, not}
+use mathlib.Core.Bool.{true, false}
 use native.Mathlib.Nat.{mod-eq-of-lt, mod-mod, mod-lt, mul-mod-left, add-zero}
 use native.Mathlib.Omega.{arith}
 use lib.Dec.{eqb}
 use lib.Pow.{pow-pos, shl-shr, shl-lt, recompose}
 use borrow.Author.Tests.{eq-eqb, eqb-true}
 use Rattle.rules.specs.Basics.{flag}
-use Rattle.rules.specs.Words.{leftJustified, shownIn, shows, dutyWord, wordDuty, countWord, wordCount, outputWord, showsOutput, wordByte, withByte, Lossless}
+use Rattle.rules.specs.Words.{leftJustified, shownIn, shows, dutyWord, wordDuty, countWord, wordCount, outputWord, showsOutput, wordByte, Lossless}
 use Rattle.rules.proofs.Tests.{flag-le}
 
 -- over the width of the number, in a word of 16 bits
@@ -60,14 +60,6 @@ output-lossless =
       word-back = λ word h e. rw mod-mod (omega (arith, eqb-true (word % 128) (full (word / 128 % 512)) e));
     }
 
--- the two bytes of a word are the word; a replaced byte is the new one, and the other byte stays
+-- the two bytes of a word are the word
 pub two-bytes : (word : ℕ) → wordByte false word * 256 + wordByte true word ≡ word
 two-bytes word = omega arith
-
-pub byte-replaced : (low : Bool) (word byte : ℕ) → byte < 256 → wordByte low (withByte low word byte) ≡ byte
-byte-replaced true word byte h = omega arith
-byte-replaced false word byte h = omega arith
-
-pub other-byte : (low : Bool) (word byte : ℕ) → byte < 256 → wordByte (not low) (withByte low word byte) ≡ wordByte (not low) word
-other-byte true word byte h = omega arith
-other-byte false word byte h = omega arith

@@ -1,10 +1,13 @@
 -- What the calls share: the refusal numbers, what is given back, and what an access to a register does besides.
 use Prim.Native.Nat.{ℕ}
 use mathlib.Core.Bool.{false}
+use lib.Dec.{eqb}
 use Rattle.rules.specs.Types.{State, Answer, ReadAnswer}
+use Rattle.rules.specs.Basics.{if_then_else_}
 use Rattle.rules.specs.State.{timer, withTimer}
 
--- "Refusal numbers", "Tested in the order of their numbers; given then and never otherwise". 0 is accepted
+-- "Refusal numbers", "Tested in the order of their numbers; given then and never otherwise", but for 8 of K6, which comes "after 3".
+-- 0 is accepted
 abbrev pub accepted : ℕ
 accepted = 0
 
@@ -36,12 +39,20 @@ speedOutOfRange = 6
 abbrev pub startOutOfRange : ℕ
 startOutOfRange = 7
 
+-- K6: "a byte write to 40h to 4Bh or 50h to 5Bh, or a word write elsewhere or to an odd address"
+abbrev pub wrongWidth : ℕ
+wrongWidth = 8
+
 -- what a call answers that gives a state back; what a read answers
 abbrev pub answer : ℕ → State → Answer
 answer refusal s = record { refusal = refusal; state = s }
 
 abbrev pub readAnswer : ℕ → ℕ → State → ReadAnswer
 readAnswer refusal byte s = record { refusal = refusal; byte = byte; state = s }
+
+-- a call that is refused with a number, "state as given", or leaves a state
+abbrev pub unlessRefused : ℕ → State → State → Answer
+unlessRefused refusal s next = if eqb refusal accepted then answer accepted next else answer refusal s
 
 -- "Each accepted read or write sets the idle count to 0 and ends an expiry"
 abbrev pub accessed : State → State

@@ -11,6 +11,7 @@ pub mod Calls
 pub mod Valid
 pub mod Start
 pub mod Write
+pub mod WriteWord
 pub mod Read
 pub mod Tick
 pub mod Tachometer

@@ -1,13 +1,15 @@
 -- A call as a value: one of those that are handed a state is made, or a list of them one after the other.
-use Prim.Native.Nat.{ℕ, _+_, _*_}
+use Prim.Native.Nat.{ℕ}
 use mathlib.Core.Path.{_≡_}
-use mathlib.Core.Bool.{true, false}
+use mathlib.Core.Bool.{true}
 use mathlib.Core.List.{List, [], _∷_, map}
-use Rattle.rules.specs.Types.{State, Answer, ReadAnswer, Call, Write, Read, Ticks, Tachometer, Pin}
+use Rattle.rules.specs.Types.{State, Target, Answer, ReadAnswer, Call, Write, Read, Ticks, Tachometer, Pin, WriteWord}
 use Rattle.rules.specs.Valid.{validOf, ifValid}
-use Rattle.rules.specs.Words.{dutyWord, wordByte}
+use Rattle.rules.specs.Words.{dutyWord}
+use Rattle.rules.specs.Map.{targetAddress}
 use Rattle.rules.specs.Calls.{accepted, answer, readAnswer}
 use Rattle.rules.specs.Write.{writeOf}
+use Rattle.rules.specs.WriteWord.{writeWordOf}
 use Rattle.rules.specs.Read.{readOf}
 use Rattle.rules.specs.Tick.{ticksPassed}
 use Rattle.rules.specs.Tachometer.{resultOf}
@@ -24,6 +26,7 @@ made s (Read a) = readOf s a
 made s (Ticks n) = withoutByte (ticksPassed s n)
 made s (Tachometer n count) = withoutByte (resultOf s n count)
 made s (Pin high) = withoutByte (pinOf s high)
+made s (WriteWord a word) = withoutByte (writeWordOf s a word)
 
 -- a list of calls, "each given the state that the one before left": an answer each, and the state that the last one leaves. A
 -- refused call changes nothing, and the list goes on
@@ -40,13 +43,12 @@ afterEach s (call ∷ calls) = afterEach (made s call .state) calls
 unfoldable pub eachPassed : State → List ℕ → Answer
 eachPassed s elapsed = ifValid s (answer accepted (afterEach s (map Ticks elapsed)))
 
--- the six target duties; and the calls that write a duty to the target of the channel with index i: the high byte, then the low one
+-- the six target duties; and the call that writes a duty to the target of the channel with index i
 abbrev pub targets : State → List ℕ
 targets s = map (λ ch. ch .target) (s .channels)
 
-unfoldable pub targetCalls : ℕ → ℕ → List Call
-targetCalls i duty =
-    Write (0x40 + 2 * i) (wordByte false (dutyWord duty)) ∷ Write (0x41 + 2 * i) (wordByte true (dutyWord duty)) ∷ []
+unfoldable pub targetCall : ℕ → ℕ → Call
+targetCall i duty = WriteWord (targetAddress Target i) (dutyWord duty)
 
 -- demand 1: "a refused call that was handed a state gives the same state back"; "All given-back states after sound ones are sound"
 pub record Keeps (s : State) (call : Call) : Type 0 where

@@ -2,7 +2,7 @@
 use Prim.Native.Nat.{ℕ, _+_}
 use mathlib.Core.Bool.{Bool, not, _&&_}
 use lib.Dec.{eqb}
-use Rattle.rules.specs.Types.{Channel, State, StatusRegister, Faults2, Faults1, Count, OtherCount, Output, BoxRegister, Control, Frequency, Mask2, Mask1, Options, ChannelRegister, Config, Dynamics, Target, TargetCount, Window, Place, Absent, ReadOnly, Shared, Own, ReadAnswer}
+use Rattle.rules.specs.Types.{Channel, State, StatusRegister, Faults2, Faults1, Count, OtherCount, Output, BoxRegister, Control, Frequency, Mask2, Mask1, Options, ChannelRegister, Config, Dynamics, Window, WordRegister, Target, TargetCount, Place, Absent, ReadOnly, Shared, Own, OwnWord, ReadAnswer}
 use Rattle.rules.specs.Basics.{if_then_else_, keep, flag}
 use Rattle.rules.specs.State.{channel, timer, withTimer}
 use Rattle.rules.specs.Registers.{targetCount}
@@ -24,13 +24,16 @@ boxByte s Mask2 = s .registers .mask2
 boxByte s Mask1 = s .registers .mask1
 boxByte s Options = s .registers .options
 
--- 02h to 0Dh, 40h to 4Bh, 50h to 5Bh, 60h to 65h
+-- 02h to 0Dh, 60h to 65h
 unfoldable pub channelByte : Channel → ChannelRegister → ℕ
 channelByte ch Config = ch .config
 channelByte ch Dynamics = ch .dynamics
-channelByte ch (Target low) = wordByte low (dutyWord (ch .target))
-channelByte ch (TargetCount low) = wordByte low (countWord (targetCount ch))
 channelByte ch Window = ch .window
+
+-- 40h to 4Bh, 50h to 5Bh
+unfoldable pub targetWord : Channel → WordRegister → ℕ
+targetWord ch Target = dutyWord (ch .target)
+targetWord ch TargetCount = countWord (targetCount ch)
 
 -- "10h reads 0"; 11h; 18h to 2Fh: "Those of tachometers 7 to 12 (24h on) read FFE0h"; 30h to 3Bh
 unfoldable pub statusByte : State → StatusRegister → ℕ
@@ -46,6 +49,7 @@ placeByte s Absent = 0
 placeByte s (ReadOnly r) = statusByte s r
 placeByte s (Shared r) = boxByte s r
 placeByte s (Own r i) = channelByte (channel s i) r
+placeByte s (OwnWord r i low) = wordByte low (targetWord (channel s i) r)
 
 -- "A read of 00h then clears the status bit"
 abbrev pub afterRead : State → ℕ → State

@@ -11,11 +11,13 @@ pub use Rattle.rules.specs.declared.Override.the-variants.{None, Duty}
 pub use Rattle.rules.specs.declared.BoxRegister.{BoxRegister}
 pub use Rattle.rules.specs.declared.BoxRegister.the-variants.{Control, Frequency, Mask2, Mask1, Options}
 pub use Rattle.rules.specs.declared.ChannelRegister.{ChannelRegister}
-pub use Rattle.rules.specs.declared.ChannelRegister.the-variants.{Config, Dynamics, Target, TargetCount, Window}
+pub use Rattle.rules.specs.declared.ChannelRegister.the-variants.{Config, Dynamics, Window}
+pub use Rattle.rules.specs.declared.WordRegister.{WordRegister}
+pub use Rattle.rules.specs.declared.WordRegister.the-variants.{Target, TargetCount}
 pub use Rattle.rules.specs.declared.StatusRegister.{StatusRegister}
 pub use Rattle.rules.specs.declared.StatusRegister.the-variants.{Faults2, Faults1, Count, OtherCount, Output}
 pub use Rattle.rules.specs.declared.Place.{Place}
-pub use Rattle.rules.specs.declared.Place.the-variants.{Absent, ReadOnly, Shared, Own}
+pub use Rattle.rules.specs.declared.Place.the-variants.{Absent, ReadOnly, Shared, Own, OwnWord}
 pub use Rattle.rules.specs.declared.Answer.{Answer}
 pub use Rattle.rules.specs.declared.ReadAnswer.{ReadAnswer}
 pub use Rattle.rules.specs.declared.FanFailAnswer.{FanFailAnswer}
@@ -24,4 +26,4 @@ pub use Rattle.rules.specs.declared.Speed.the-variants.{Rpm, Stopped, To
 pub use Rattle.rules.specs.declared.Reading.{Reading}
 pub use Rattle.rules.specs.declared.ReadingAnswer.{ReadingAnswer}
 pub use Rattle.rules.specs.declared.Call.{Call}
-pub use Rattle.rules.specs.declared.Call.the-variants.{Write, Read, Ticks, Tachometer, Pin}
+pub use Rattle.rules.specs.declared.Call.the-variants.{Write, Read, Ticks, Tachometer, Pin, WriteWord}

@@ -35,12 +35,9 @@ outputWord duty = dutyWord duty + flag (eqb (duty % 2 ^ 9) 511)
 abbrev pub showsOutput : ℕ → Bool
 showsOutput word = eqb (word % 2 ^ 7) (flag (eqb (wordDuty word) 511))
 
--- the high or the low byte of a word, and the word with that byte replaced
+-- the high or the low byte of a word
 abbrev pub wordByte : Bool → ℕ → ℕ
 wordByte low word = if low then word % 256 else word / 256
-
-abbrev pub withByte : Bool → ℕ → ℕ → ℕ
-withByte low word byte = if low then word / 256 * 256 + byte else byte * 256 + word % 256
 
 -- A number below the limit and the word that shows it convert both ways without loss.
 pub record Lossless (limit : ℕ) (showing : ℕ → Bool) (toWord toNumber : ℕ → ℕ) : Type 0 where

@@ -1,41 +1,29 @@
--- The call write.
+-- The call write, of a byte.
 use Prim.Native.Nat.{ℕ}
-use mathlib.Core.Bool.{false}
+use mathlib.Core.Bool.{not, _&&_}
 use mathlib.Core.List.{map}
-use lib.Dec.{eqb}
 use lib.ListN.{set}
-use Rattle.rules.specs.Types.{Channel, Registers, State, BoxRegister, Control, Frequency, Mask2, Mask1, Options, ChannelRegister, Config, Dynamics, Target, TargetCount, Window, Place, Absent, ReadOnly, Shared, Own, Answer}
+use Rattle.rules.specs.Types.{Channel, Registers, State, BoxRegister, Control, Frequency, Mask2, Mask1, Options, ChannelRegister, Config, Dynamics, Window, Place, Absent, ReadOnly, Shared, Own, OwnWord, Answer}
 use Rattle.rules.specs.Basics.{if_then_else_, bit}
-use Rattle.rules.specs.State.{channel, registers, results, withSettings, withResults, withMotion, withChannels, withRegisters}
+use Rattle.rules.specs.State.{channel, registers, withSettings, withMotion, withChannels, withRegisters}
 use Rattle.rules.specs.Registers.{targetCount, controlKept, dynamicsKept, maskKept, optionsKept, configRefused}
-use Rattle.rules.specs.Words.{dutyWord, wordDuty, countWord, wordCount, withByte}
-use Rattle.rules.specs.Map.{placeAt}
+use Rattle.rules.specs.Map.{placeAt, isCarried, isReadOnly, isTarget, isConfig}
 use Rattle.rules.specs.Valid.{ifValid}
 use Rattle.rules.specs.Start.{asAtStart}
-use Rattle.rules.specs.Calls.{accepted, notCarried, readOnly, configNotAllowed, answer, accessed}
+use Rattle.rules.specs.Calls.{accepted, notCarried, readOnly, configNotAllowed, wrongWidth, unlessRefused, accessed}
 
 -- ---- a channel's register
 
--- ramp value and spin-up time become 0; fault bit and queue count become 0
+-- ramp value and spin-up time become 0
 abbrev pub stopped : Channel → Channel
 stopped ch = withMotion ch 0 0
 
-abbrev pub cleared : Channel → Channel
-cleared ch = withResults ch (results (ch .count) 0 false)
-
--- "To a fan configuration with bit 4: that channel's ramp value and spin-up time become 0. To either byte of a target
--- duty: that channel's fault bit and queue count become 0." "Each byte of a two-byte target takes effect when it is written"
+-- "To a fan configuration with bit 4: that channel's ramp value and spin-up time become 0"
 unfoldable pub channelWritten : Channel → ℕ → ChannelRegister → Channel
 channelWritten ch b Config =
     let next = withSettings ch b (ch .dynamics) (ch .window) (ch .target) (targetCount ch) in
     if bit 4 b then stopped next else next
 channelWritten ch b Dynamics = withSettings ch (ch .config) (dynamicsKept b) (ch .window) (ch .target) (targetCount ch)
-channelWritten ch b (Target low) =
-    let target = wordDuty (withByte low (dutyWord (ch .target)) b) in
-    cleared (withSettings ch (ch .config) (ch .dynamics) (ch .window) target (targetCount ch))
-channelWritten ch b (TargetCount low) =
-    let target-count = wordCount (withByte low (countWord (targetCount ch)) b) in
-    withSettings ch (ch .config) (ch .dynamics) (ch .window) (ch .target) target-count
 channelWritten ch b Window = withSettings ch (ch .config) (ch .dynamics) b (ch .target) (targetCount ch)
 
 -- ---- a register of the box
@@ -76,26 +64,16 @@ written s b Absent = s
 written s b (ReadOnly r) = s
 written s b (Shared r) = boxWritten s b r
 written s b (Own r i) = ownWritten s b r i
+written s b (OwnWord r i low) = s
 
--- refusal 4 speaks of a fan configuration alone
-abbrev pub byteRefusal : ChannelRegister → ℕ → ℕ
-byteRefusal Config b = if configRefused b then configNotAllowed else accepted
-byteRefusal Dynamics b = accepted
-byteRefusal (Target low) b = accepted
-byteRefusal (TargetCount low) b = accepted
-byteRefusal Window b = accepted
-
--- refusals 2, 3 and 4, by what stands at the address
+-- 2, 3, then K6's "8, after 3: a byte write to 40h to 4Bh or 50h to 5Bh", and 4, by what stands at the address
 unfoldable pub writeRefusal : Place → ℕ → ℕ
-writeRefusal Absent b = notCarried
-writeRefusal (ReadOnly r) b = readOnly
-writeRefusal (Shared r) b = accepted
-writeRefusal (Own r i) b = byteRefusal r b
-
-unfoldable pub writeAt : State → ℕ → Place → Answer
-writeAt s b place =
-    if eqb (writeRefusal place b) accepted then answer accepted (written (accessed s) b place)
-    else answer (writeRefusal place b) s
+writeRefusal place b =
+    if not (isCarried place) then notCarried
+    else if isReadOnly place then readOnly
+    else if isTarget place then wrongWidth
+    else if isConfig place && configRefused b then configNotAllowed
+    else accepted
 
 unfoldable pub writeOf : State → ℕ → ℕ → Answer
-writeOf s a b = ifValid s (writeAt s b (placeAt a))
+writeOf s a b = let place = placeAt a in ifValid s (unlessRefused (writeRefusal place b) s (written (accessed s) b place))

@@ -85,13 +85,17 @@ pub enum BoxRegister {
     Options,
 }
 
-// A register that each channel has and that can be written; of a two-byte one, whether it is the low byte.
+// A register that each channel has and that is written a byte at a time.
 pub enum ChannelRegister {
     Config,
     Dynamics,
-    Target(bool),
-    TargetCount(bool),
     Window,
+}
+
+// A register of two bytes that each channel has and that is written a word at a time: target duty, target count.
+pub enum WordRegister {
+    Target,
+    TargetCount,
 }
 
 // A register that can only be read; of a channel's, which channel (0 to 5) and whether it is the low byte.
@@ -110,6 +114,8 @@ pub enum Place {
     ReadOnly(StatusRegister),
     Shared(BoxRegister),
     Own(ChannelRegister, usize),
+    // One byte of the register: of which channel (0 to 5), and whether it is the low one.
+    OwnWord(WordRegister, usize, bool),
 }
 
 // The refusal numbers; 0 is accepted.
@@ -128,6 +134,8 @@ pub const NO_SUCH_CHANNEL: u8 = 5;
 pub const SPEED_OUT_OF_RANGE: u8 = 6;
 
 pub const START_OUT_OF_RANGE: u8 = 7;
+
+pub const WRONG_WIDTH: u8 = 8;
 
 // What a call gives back.
 pub struct Answer {
@@ -154,6 +162,8 @@ pub enum Call {
     Tachometer(u32, u32),
     // FULL_SPEED is high.
     Pin(bool),
+    // The address and the word.
+    WriteWord(u32, u16),
 }
 
 // What a FAN_FAIL query gives back: whether it is asserted, how many unmasked channels have failed, and the lowest of

@@ -11,11 +11,11 @@ use Rattle.rules.specs.Map.{settingAt, placeAt}
 use Rattle.rules.specs.Time.{watchdogLimit}
 use Rattle.rules.specs.Valid.{validChannel, validRegisters, validStart, validTimer, validOf}
 use Rattle.rules.specs.Start.{zeroState}
-use Rattle.rules.specs.Write.{writeRefusal, written, boxWritten, writeAt, writeOf}
+use Rattle.rules.specs.Write.{writeRefusal, written, boxWritten, writeOf}
 use Rattle.rules.specs.Read.{placeByte, boxByte, readAt, readOf}
 use Rattle.rules.specs.Make.{made}
 use Rattle.rules.specs.declared.Call.the-variants as call
-use Rattle.strings.specs.declared.Order.the-variants.{Write}
+use Rattle.strings.specs.declared.Order.the-variants.{Write, WriteWord}
 use Rattle.strings.specs.Number.{stringEnds, longForm, numberTooLarge, groupOf}
 use Rattle.strings.specs.Record.{noRecord, kindOf, numberOf, stepOf}
 use Rattle.strings.specs.String.{whole, refused, recordFrom, frontOf}
@@ -26,25 +26,28 @@ use Rattle.strings.specs.Run.{answersTooShort, runOn, runOf}
 -- ---- the reading
 
 -- a read without its address, a pin cut off in the middle of its number; an address of 0 in two bytes; a fifth byte of 16, at the end
--- and with its top bit set, where it says that another follows; kind 5; a write of 256, a pin level of 2
+-- and with its top bit set, where it says that another follows; kind 7; a write of 256, a pin level of 2, a word of 65,536, each before
+-- its address is looked at
 pub refused-examples : map frontOf (
     (0x01 ∷ []) ∷ (0x04 ∷ 0x82 ∷ [])
     ∷ (0x01 ∷ 0x80 ∷ 0x00 ∷ [])
     ∷ (0x02 ∷ 0xFF ∷ 0xFF ∷ 0xFF ∷ 0xFF ∷ 0x10 ∷ []) ∷ (0x02 ∷ 0xFF ∷ 0xFF ∷ 0xFF ∷ 0xFF ∷ 0x81 ∷ 0x00 ∷ [])
-    ∷ (0x05 ∷ []) ∷ (0x00 ∷ 0x0E ∷ 0x80 ∷ 0x02 ∷ []) ∷ (0x04 ∷ 0x02 ∷ []) ∷ [])
-    ≡ map refused (stringEnds ∷ stringEnds ∷ longForm ∷ numberTooLarge ∷ numberTooLarge ∷ noRecord ∷ noRecord ∷ noRecord ∷ [])
+    ∷ (0x07 ∷ []) ∷ (0x00 ∷ 0x0E ∷ 0x80 ∷ 0x02 ∷ []) ∷ (0x04 ∷ 0x02 ∷ []) ∷ (0x05 ∷ 0x0E ∷ 0x80 ∷ 0x80 ∷ 0x04 ∷ []) ∷ [])
+    ≡ map refused (stringEnds ∷ stringEnds ∷ longForm ∷ numberTooLarge ∷ numberTooLarge ∷ noRecord ∷ noRecord ∷ noRecord ∷ noRecord ∷ [])
 unfolding frontOf recordFrom stepOf groupOf numberOf kindOf
 refused-examples = refl
 
 -- ---- both ways
 
--- numbers of one, two and five bytes; a record of 32-bit numbers, which is read back and judged; one that is taken, and what follows it
+-- numbers of one, two and five bytes; a record of 32-bit numbers, which is read back and judged; one that is taken, and what follows it;
+-- the longest word
 pub trip-examples : (map numberBytes (127 ∷ 300 ∷ 4294967295 ∷ []) ≡ (0x7F ∷ []) ∷ (0xAC ∷ 0x02 ∷ []) ∷ (0xFF ∷ 0xFF ∷ 0xFF ∷ 0xFF ∷ 0x0F ∷ []) ∷ [])
     × ((below (2 ^ 32) (numbersOf (Write 4294967295 256)) ≡ true) × (frontOf (encoded (Write 4294967295 256)) ≡ refused noRecord))
     × (let string = encoded (Write 300 255) ++ (0x05 ∷ []) in
     (below 256 string ≡ true) × (frontOf string ≡ whole (call.Write 300 255) (0x05 ∷ [])))
+    × (frontOf (encoded (WriteWord 0x40 65535)) ≡ whole (call.WriteWord 0x40 65535) [])
 unfolding numberBytes bytesWithin encoded numbersBytes frontOf recordFrom stepOf groupOf numberOf kindOf
-trip-examples = (refl, (refl, refl), (refl, refl))
+trip-examples = (refl, (refl, refl), (refl, refl), refl)
 
 -- ---- the run
 
@@ -61,7 +64,7 @@ pub run-example : (validOf zeroState ≡ true) × (length fourRecords ≤ length
     × (let r = runOf zeroState fourRecords 9 (sevens 10) in
     (r .answer .refusal ≡ notCarried) × (r .answer .taken ≡ 2) × (r .answer .answered ≡ 1) × (r .buffer ≡ 0xA5 ∷ sevens 9))
     × (runOf zeroState fourRecords 1 (sevens 10) .answer .refusal ≡ accepted)
-unfolding runOf runOn frontOf recordFrom stepOf groupOf numberOf kindOf made writeOf writeAt writeRefusal written boxWritten readOf readAt placeByte boxByte placeAt settingAt validOf validRegisters validStart validTimer validChannel watchdogLimit
+unfolding runOf runOn frontOf recordFrom stepOf groupOf numberOf kindOf made writeOf writeRefusal written boxWritten readOf readAt placeByte boxByte placeAt settingAt validOf validRegisters validStart validTimer validChannel watchdogLimit
 run-example = (refl, omega arith, (refl, refl, refl, refl), refl)
 
 -- a buffer short by one; a state with the watchdog off and an idle count

@@ -4,16 +4,15 @@ use mathlib.Core.Path.{_≡_, refl, sym, ap, _∙_, subst}
 use mathlib.Core.Bool.{Bool, true, false, false≢true}
 use mathlib.Core.List.{List, [], _∷_}
 use native.Mathlib.Omega.{arith}
-use lib.Dec.{eqb}
 use lib.ListN.{length, drop, length-drop}
 use lib.Seq.{drop-drop}
-use Rattle.rules.proofs.Tests.{choice}
 use Rattle.strings.specs.Types.{Call, Group, Partial, Step, Found}
 use Rattle.strings.specs.declared.Group.the-variants as group
 use Rattle.strings.specs.declared.Step.the-variants.{More, Whole, Refused}
 use Rattle.strings.specs.declared.Found.the-variants as found
 use Rattle.strings.specs.Number.{groupOf}
-use Rattle.strings.specs.Record.{writeKind, readKind, ticksKind, tachometerKind, pinKind, blank, kindOf, numberOf, groupTaken, stepOf}
+use Rattle.strings.specs.Record.{blank, kindOf, numberOf, groupTaken, stepOf}
+use Rattle.strings.proofs.Stages.{by-kind}
 use Rattle.strings.specs.String.{Front, whole, end, refused, stepped, recordFrom, frontOf, placed, recordAt}
 
 -- a string is so many bytes, at least `least`, and then the rest
@@ -44,11 +43,7 @@ unfinished (Refused refusal) = true
 
 -- the first byte does not: it can only be a kind
 kind-unfinished : (n : ℕ) → unfinished (kindOf n) ≡ true
-unfolding kindOf
-kind-unfinished n =
-    let P : Step → Type 0 = λ t. unfinished t ≡ true in
-    choice P (eqb n writeKind) _ _ (λ _. refl) (λ _. choice P (eqb n readKind) _ _ (λ _. refl) (λ _. choice P (eqb n ticksKind) _ _ (λ _. refl)
-    (λ _. choice P (eqb n tachometerKind) _ _ (λ _. refl) (λ _. choice P (eqb n pinKind) _ _ (λ _. refl) (λ _. refl)))))
+kind-unfinished n = by-kind (λ t. unfinished t ≡ true) n (λ stage e. refl) refl
 
 first-unfinished : (byte : ℕ) → unfinished (stepOf blank byte) ≡ true
 unfolding stepOf numberOf

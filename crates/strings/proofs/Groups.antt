@@ -9,11 +9,12 @@ use lib.Arith.{digits-lt}
 use lib.Pow.{pow-add, pow-mono}
 use borrow.Author.Tests.{lt-ltb, le-ltb, ne-eqb, ltb-true, ltb-false, eqb-true, eqb-false}
 use Rattle.rules.proofs.Tests.{by-test, choice}
-use Rattle.strings.specs.Types.{Group, Stage, Kind, WriteAddress, WriteByte, ReadAddress, TickCount, ResultChannel, ResultCount, PinLevel, Partial, Step}
+use Rattle.strings.specs.Types.{Group, Stage, Kind, WriteAddress, WriteByte, ReadAddress, TickCount, ResultChannel, ResultCount, PinLevel, WordAddress, WordValue, Partial, Step}
 use Rattle.strings.specs.declared.Group.the-variants as group
 use Rattle.strings.specs.declared.Step.the-variants.{More, Whole, Refused}
 use Rattle.strings.specs.Number.{groupOf}
-use Rattle.strings.specs.Record.{writeKind, readKind, ticksKind, tachometerKind, pinKind, begun, kindOf, numberOf, groupTaken, stepOf, HalfRead}
+use Rattle.strings.specs.Record.{begun, numberOf, groupTaken, stepOf, HalfRead}
+use Rattle.strings.proofs.Stages.{by-kind}
 
 -- ---- a number
 
@@ -94,11 +95,8 @@ pub begun-half : (stage : Stage) → HalfRead (begun stage)
 begun-half stage = record { few = omega arith; low = omega arith }
 
 number-kept : (stage : Stage) (n : ℕ) → StepKept (numberOf stage n)
-unfolding numberOf kindOf
-number-kept Kind n =
-    choice StepKept (eqb n writeKind) _ _ (λ _. begun-half _) (λ _. choice StepKept (eqb n readKind) _ _ (λ _. begun-half _)
-    (λ _. choice StepKept (eqb n ticksKind) _ _ (λ _. begun-half _) (λ _. choice StepKept (eqb n tachometerKind) _ _ (λ _. begun-half _)
-    (λ _. choice StepKept (eqb n pinKind) _ _ (λ _. begun-half _) (λ _. tt)))))
+unfolding numberOf
+number-kept Kind n = by-kind StepKept n (λ stage e. begun-half stage) tt
 number-kept WriteAddress n = begun-half _
 number-kept (WriteByte address) n = choice StepKept (ltb n 256) _ _ (λ _. tt) (λ _. tt)
 number-kept ReadAddress n = tt
@@ -106,6 +104,8 @@ number-kept TickCount n = tt
 number-kept ResultChannel n = begun-half _
 number-kept (ResultCount channel) n = tt
 number-kept PinLevel n = choice StepKept (ltb n 2) _ _ (λ _. tt) (λ _. tt)
+number-kept WordAddress n = begun-half _
+number-kept (WordValue address) n = choice StepKept (ltb n 65536) _ _ (λ _. tt) (λ _. tt)
 
 pub step-kept : (p : Partial) (byte : ℕ) → HalfRead p → StepKept (stepOf p byte)
 unfolding stepOf

@@ -1,3 +1,4 @@
+pub mod Stages
 pub mod Fronts
 pub mod Groups
 pub mod Runs

@@ -10,15 +10,16 @@ use borrow.Author.Tests.{lt-ltb, ltb-true, eqb-true, eqb-false}
 use Rattle.rules.specs.Basics.{if_then_else_, flag}
 use Rattle.rules.specs.declared.Call.the-variants as call
 use Rattle.rules.proofs.Tests.{choice, and-left, and-right}
-use Rattle.strings.specs.Types.{Call, Group, Stage, Kind, WriteAddress, WriteByte, ReadAddress, TickCount, ResultChannel, ResultCount, PinLevel, Partial, Step, Order}
+use Rattle.strings.specs.Types.{Call, Group, Stage, Kind, WriteAddress, WriteByte, ReadAddress, TickCount, ResultChannel, ResultCount, PinLevel, WordAddress, WordValue, Partial, Step, Order}
 use Rattle.strings.specs.declared.Group.the-variants as group
 use Rattle.strings.specs.declared.Step.the-variants.{More, Whole, Refused}
-use Rattle.strings.specs.declared.Order.the-variants.{Write, Read, Ticks, Tachometer, Pin}
+use Rattle.strings.specs.declared.Order.the-variants.{Write, Read, Ticks, Tachometer, Pin, WriteWord}
 use Rattle.strings.specs.Number.{groupOf}
-use Rattle.strings.specs.Record.{writeKind, readKind, ticksKind, tachometerKind, pinKind, begun, blank, kindOf, numberOf, groupTaken, stepOf}
+use Rattle.strings.specs.Record.{writeKind, readKind, ticksKind, tachometerKind, pinKind, writeWordKind, begun, blank, kindOf, numberOf, groupTaken, stepOf}
 use Rattle.strings.specs.String.{Front, whole, end, refused, stepped, recordFrom, frontOf}
 use Rattle.strings.specs.Encode.{bytesWithin, numberBytes, numbersBytes, numbersOf, encoded, orderOf}
 use Rattle.strings.specs.Trips.{Number, number, noNumber, grouped, numberFrom, numberIn, below, frontBy, isHeld, RoundTrips}
+use Rattle.strings.proofs.Stages.{earlier, by-kind}
 use Rattle.strings.proofs.Fronts.{isWhole, restOf, from-ahead}
 use Rattle.strings.proofs.NumberTrips.{number-written, number-read}
 
@@ -95,16 +96,21 @@ module _ (rest : List ℕ) where
   order-written (Pin level) h =
       front-taken pinKind (level ∷ []) ∙ numbers-taken Kind pinKind (level ∷ []) refl ∙ numbers-taken PinLevel level [] (and-left (ltb level (2 ^ 32)) true h) ∙
       judged (ltb level 2) _ _ _
+  order-written (WriteWord address word) h =
+      let a = and-left (ltb address (2 ^ 32)) _ h in
+      let v = and-left (ltb word (2 ^ 32)) true (and-right (ltb address (2 ^ 32)) _ h) in
+      front-taken writeWordKind (address ∷ word ∷ []) ∙ numbers-taken Kind writeWordKind (address ∷ word ∷ []) refl ∙ numbers-taken WordAddress address (word ∷ []) a ∙
+      numbers-taken (WordValue address) word [] v ∙ judged (ltb word 65536) _ _ _
 
-  -- a byte is below 2 ^ 32 too
-  byte-small : (n : ℕ) → ltb n 256 ≡ true → ltb n (2 ^ 32) ≡ true
-  byte-small n h = lt-ltb n (2 ^ 32) (omega (arith, ltb-true n 256 h))
+  -- a byte and a word are below 2 ^ 32 too
+  small-too : (limit n : ℕ) → limit ≤ 65536 → ltb n limit ≡ true → ltb n (2 ^ 32) ≡ true
+  small-too limit n few h = lt-ltb n (2 ^ 32) (omega (arith, ltb-true n limit h))
 
   call-written : (c : Call) → isHeld c ≡ true → frontOf (encoded (orderOf c) ++ rest) ≡ whole c rest
   unfolding orderOf
   call-written (call.Write address byte) h =
       let small = and-right (ltb address (2 ^ 32)) (ltb byte 256) h in
-      order-written (Write address byte) (rw (and-left (ltb address (2 ^ 32)) (ltb byte 256) h, byte-small byte small) refl) ∙ rw small refl
+      order-written (Write address byte) (rw (and-left (ltb address (2 ^ 32)) (ltb byte 256) h, small-too 256 byte (omega arith) small) refl) ∙ rw small refl
   call-written (call.Read address) h = order-written (Read address) (rw h refl)
   call-written (call.Ticks n) h = order-written (Ticks n) (rw h refl)
   call-written (call.Tachometer channel count) h =
@@ -112,19 +118,11 @@ module _ (rest : List ℕ) where
       (rw (and-left (ltb channel (2 ^ 32)) (ltb count (2 ^ 32)) h, and-right (ltb channel (2 ^ 32)) (ltb count (2 ^ 32)) h) refl)
   call-written (call.Pin true) h = order-written (Pin 1) refl
   call-written (call.Pin false) h = order-written (Pin 0) refl
+  call-written (call.WriteWord address word) h =
+      let small = and-right (ltb address (2 ^ 32)) (ltb word 65536) h in
+      order-written (WriteWord address word) (rw (and-left (ltb address (2 ^ 32)) (ltb word 65536) h, small-too 65536 word (omega arith) small) refl) ∙ rw small refl
 
 -- ---- read, and what was read is what is written
-
--- the numbers of a record that were read before a stage
-abbrev earlier : Stage → List ℕ
-earlier Kind = []
-earlier WriteAddress = writeKind ∷ []
-earlier (WriteByte address) = writeKind ∷ address ∷ []
-earlier ReadAddress = readKind ∷ []
-earlier TickCount = ticksKind ∷ []
-earlier ResultChannel = tachometerKind ∷ []
-earlier (ResultCount channel) = tachometerKind ∷ channel ∷ []
-earlier PinLevel = pinKind ∷ []
 
 -- a step after a number has the numbers so far: at the stage that begins, or as the record of its call
 abbrev Has : List ℕ → Step → Type 0
@@ -137,12 +135,8 @@ level-is n h =
     choice (λ x. x ≡ n) (eqb n 1) 1 0 (λ e. sym (eqb-true n 1 e)) (λ e. let other = eqb-false n 1 e in omega (arith, ltb-true n 2 h, other))
 
 number-has : (stage : Stage) (n : ℕ) → Has (earlier stage ++ (n ∷ [])) (numberOf stage n)
-unfolding numberOf kindOf orderOf
-number-has Kind n =
-    let H : Step → Type 0 = Has (n ∷ []) in
-    choice H (eqb n writeKind) _ _ (λ e. (refl, rw (eqb-true n writeKind e) refl)) (λ _. choice H (eqb n readKind) _ _ (λ e. (refl, rw (eqb-true n readKind e) refl))
-    (λ _. choice H (eqb n ticksKind) _ _ (λ e. (refl, rw (eqb-true n ticksKind e) refl)) (λ _. choice H (eqb n tachometerKind) _ _ (λ e. (refl, rw (eqb-true n tachometerKind e) refl))
-    (λ _. choice H (eqb n pinKind) _ _ (λ e. (refl, rw (eqb-true n pinKind e) refl)) (λ _. tt)))))
+unfolding numberOf orderOf
+number-has Kind n = by-kind (Has (n ∷ [])) n (λ stage e. (refl, e)) tt
 number-has WriteAddress n = (refl, refl)
 number-has (WriteByte address) n = choice (Has (writeKind ∷ address ∷ n ∷ [])) (ltb n 256) _ _ (λ _. refl) (λ _. tt)
 number-has ReadAddress n = refl
@@ -150,6 +144,8 @@ number-has TickCount n = refl
 number-has ResultChannel n = (refl, refl)
 number-has (ResultCount channel) n = refl
 number-has PinLevel n = choice (Has (pinKind ∷ n ∷ [])) (ltb n 2) _ _ (λ h. rw (level-is n h) refl) (λ _. tt)
+number-has WordAddress n = (refl, refl)
+number-has (WordValue address) n = choice (Has (writeWordKind ∷ address ∷ n ∷ [])) (ltb n 65536) _ _ (λ _. refl) (λ _. tt)
 
 numbers-append : (a b : List ℕ) (rest : List ℕ) → numbersBytes (a ++ b) ++ rest ≡ numbersBytes a ++ (numbersBytes b ++ rest)
 unfolding numbersBytes

@@ -1,15 +1,16 @@
 -- A record of an order string, byte by byte: "Kinds: 0 write (address, value), 1 read (address), 2 ticks (n), 3 tachometer (channel,
--- count), 4 pin (0 low, 1 high)".
+-- count), 4 pin (0 low, 1 high)", and since K6 "kind 5 (even address, word)".
 use Prim.Native.Nat.{ℕ, _+_, _*_, _^_, _≤_, _<_}
 use lib.Dec.{ltb, eqb}
 use Rattle.rules.specs.Basics.{if_then_else_}
-use Rattle.rules.specs.declared.Call.the-variants.{Write, Read, Ticks, Tachometer, Pin}
-use Rattle.strings.specs.Types.{Group, Stage, Kind, WriteAddress, WriteByte, ReadAddress, TickCount, ResultChannel, ResultCount, PinLevel, Partial, Step}
+use Rattle.rules.specs.declared.Call.the-variants.{Write, Read, Ticks, Tachometer, Pin, WriteWord}
+use Rattle.strings.specs.Types.{Group, Stage, Kind, WriteAddress, WriteByte, ReadAddress, TickCount, ResultChannel, ResultCount, PinLevel, WordAddress, WordValue, Partial, Step}
 use Rattle.strings.specs.declared.Group.the-variants as group
 use Rattle.strings.specs.declared.Step.the-variants.{More, Whole, Refused}
 use Rattle.strings.specs.Number.{groupOf}
 
--- "13 for an unknown kind as soon as it is read, for a write value or pin once the record is read"
+-- "13 for an unknown kind as soon as it is read, for a write value or pin once the record is read"; since K6 "13 also covers a word
+-- above 65,535"
 abbrev pub noRecord : ℕ
 noRecord = 13
 
@@ -29,6 +30,9 @@ tachometerKind = 3
 abbrev pub pinKind : ℕ
 pinKind = 4
 
+abbrev pub writeWordKind : ℕ
+writeWordKind = 5
+
 -- a number that has not begun; a record that has not begun
 abbrev pub begun : Stage → Partial
 begun stage = record { stage = stage; groups = 0; value = 0 }
@@ -44,10 +48,11 @@ kindOf kind =
     else if eqb kind ticksKind then More (begun TickCount)
     else if eqb kind tachometerKind then More (begun ResultChannel)
     else if eqb kind pinKind then More (begun PinLevel)
+    else if eqb kind writeWordKind then More (begun WordAddress)
     else Refused noRecord
 
--- what a whole number makes of a record. Of a write the value is a byte, and of a pin the level 0 or 1; an address is the call's to
--- refuse
+-- what a whole number makes of a record. Of a write the value is a byte, of a pin the level 0 or 1, and a word has 16 bits; an address
+-- is the call's to refuse
 unfoldable pub numberOf : Stage → ℕ → Step
 numberOf Kind n = kindOf n
 numberOf WriteAddress n = More (begun (WriteByte n))
@@ -57,6 +62,8 @@ numberOf TickCount n = Whole (Ticks n)
 numberOf ResultChannel n = More (begun (ResultCount n))
 numberOf (ResultCount channel) n = Whole (Tachometer channel n)
 numberOf PinLevel n = if ltb n 2 then Whole (Pin (eqb n 1)) else Refused noRecord
+numberOf WordAddress n = More (begun (WordValue n))
+numberOf (WordValue address) n = if ltb n 65536 then Whole (WriteWord address n) else Refused noRecord
 
 abbrev pub groupTaken : Partial → Group → Step
 groupTaken p (group.More value) = More (record { stage = p .stage; groups = p .groups + 1; value = value })

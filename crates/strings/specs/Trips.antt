@@ -9,7 +9,7 @@ use Rattle.rules.specs.Basics.{if_then_else_, every}
 use Rattle.rules.specs.declared.Call.the-variants as call
 use Rattle.strings.specs.Types.{Call, Group, Order}
 use Rattle.strings.specs.declared.Group.the-variants.{More, Last, Refused}
-use Rattle.strings.specs.declared.Order.the-variants.{Write, Read, Ticks, Tachometer, Pin}
+use Rattle.strings.specs.declared.Order.the-variants.{Write, Read, Ticks, Tachometer, Pin, WriteWord}
 use Rattle.strings.specs.Number.{stringEnds, groupOf}
 use Rattle.strings.specs.Record.{noRecord}
 use Rattle.strings.specs.String.{Front, whole, refused, frontOf}
@@ -39,21 +39,23 @@ numberIn string = numberFrom 0 0 string
 abbrev pub below : ℕ → List ℕ → Bool
 below limit numbers = every (λ n. ltb n limit) numbers
 
--- the record of numbers whatever they are: "13 .. for a write value or pin once the record is read"
+-- the record of numbers whatever they are: "13 .. for a write value or pin once the record is read", and for a word
 abbrev pub frontBy : Order → List ℕ → Front
 frontBy (Write address value) rest = if ltb value 256 then whole (call.Write address value) rest else refused noRecord
 frontBy (Read address) rest = whole (call.Read address) rest
 frontBy (Ticks n) rest = whole (call.Ticks n) rest
 frontBy (Tachometer channel count) rest = whole (call.Tachometer channel count) rest
 frontBy (Pin level) rest = if ltb level 2 then whole (call.Pin (eqb level 1)) rest else refused noRecord
+frontBy (WriteWord address word) rest = if ltb word 65536 then whole (call.WriteWord address word) rest else refused noRecord
 
--- what the types of a call hold by themselves: numbers of 32 bits, and a byte
+-- what the types of a call hold by themselves: numbers of 32 bits, a byte, and a word
 abbrev pub isHeld : Call → Bool
 isHeld (call.Write address byte) = ltb address (2 ^ 32) && ltb byte 256
 isHeld (call.Read address) = ltb address (2 ^ 32)
 isHeld (call.Ticks n) = ltb n (2 ^ 32)
 isHeld (call.Tachometer channel count) = ltb channel (2 ^ 32) && ltb count (2 ^ 32)
 isHeld (call.Pin high) = true
+isHeld (call.WriteWord address word) = ltb address (2 ^ 32) && ltb word 65536
 
 -- ---- both ways
 

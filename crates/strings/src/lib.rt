@@ -25,6 +25,8 @@ pub const TACHOMETER: u32 = 3;
 
 pub const PIN: u32 = 4;
 
+pub const WRITE_WORD: u32 = 5;
+
 // What a byte makes of a number: what its groups are worth so far, with more to come or as the last; or a refusal.
 pub enum Group {
     More(u32),
@@ -42,6 +44,8 @@ pub enum Stage {
     ResultChannel,
     ResultCount(u32),
     PinLevel,
+    WordAddress,
+    WordValue(u32),
 }
 
 // What has been read of a record: the stage, and of its number so many groups, and what they are worth.
@@ -77,6 +81,8 @@ pub enum Order {
     Tachometer(u32, u32),
     // The level: 0 is low, 1 is high.
     Pin(u32),
+    // The address and the word.
+    WriteWord(u32, u32),
 }
 
 // What a run gives back, besides the answers in their buffer: how many records it took, and how many answer bytes there are.

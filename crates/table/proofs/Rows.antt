@@ -29,35 +29,42 @@ row-at (c ∷ source) (r ∷ rows) e (suc i) h d =
     record { row = at .row; stands = at .stands; same = at .same }
 
 -- in a part of the table: the row of the first of two, or of the second
-module _ (rows others : List Row) where
-  in-first : {command : Command} {i : ℕ} → i < length rows → RowAt command rows i → RowAt command (rows ++ others) i
-  in-first {i = i} h at =
-      record { row = at .row; stands = List·getD-append rows others (at .row) i h ∙ at .stands; same = at .same }
+module _ (rows others : List Row) {command : Command} {place : ℕ} where
+  in-first : place < length rows → RowAt command rows place → RowAt command (rows ++ others) place
+  in-first h at =
+      record { row = at .row; stands = List·getD-append rows others (at .row) place h ∙ at .stands; same = at .same }
 
-  in-second : {command : Command} {j : ℕ} → RowAt command others j → RowAt command (rows ++ others) (length rows + j)
-  in-second {j = j} at = record { row = at .row; stands = getD-append-add rows others j (at .row) ∙ at .stands; same = at .same }
+  in-second : length rows ≤ place → RowAt command others (place - length rows) → RowAt command (rows ++ others) place
+  in-second h at =
+      let past : length rows + (place - length rows) ≡ place = omega arith in
+      let stands = getD-append-add rows others (place - length rows) (at .row) ∙ at .stands in
+      record { row = at .row; stands = rw past at stands; same = at .same }
 
-module _ (source : List Command) (d : Command) (i : ℕ) where
-  pub call-row : Describe source callRows → i < 6 → RowAt (getD source i d) commands i
+-- the rows of each part, at the places from the part's first on
+module _ (source : List Command) (d : Command) (place : ℕ) where
+  pub call-row : Describe source callRows → place < length callRows → RowAt (getD source place d) commands place
   unfolding commands
-  call-row e h = in-first callRows (stateRows ++ (stringRows ++ galleyRows)) h (row-at source callRows e i h d)
+  call-row e h = in-first callRows (stateRows ++ (stringRows ++ galleyRows)) h (row-at source callRows e place h d)
 
-  pub state-row : Describe source stateRows → i < 7 → RowAt (getD source i d) commands (6 + i)
-  unfolding commands
-  state-row e h =
-      in-second callRows (stateRows ++ (stringRows ++ galleyRows)) (in-first stateRows (stringRows ++ galleyRows) h (row-at source stateRows e i h d))
+  module _ (rows part others : List Row) (e : Describe source part) (from : length rows ≤ place) where
+    part-row : place < length rows + length part → RowAt (getD source (place - length rows) d) (rows ++ (part ++ others)) place
+    part-row h =
+        in-second rows (part ++ others) from (in-first part others (omega arith) (row-at source part e (place - length rows) (omega arith) d))
 
-  pub string-row : Describe source stringRows → i < 3 → RowAt (getD source i d) commands (6 + (7 + i))
+  pub state-row : Describe source stateRows → length callRows ≤ place → place < length (callRows ++ stateRows) →
+      RowAt (getD source (place - length callRows) d) commands place
   unfolding commands
-  string-row e h =
-      in-second callRows (stateRows ++ (stringRows ++ galleyRows))
-      (in-second stateRows (stringRows ++ galleyRows) (in-first stringRows galleyRows h (row-at source stringRows e i h d)))
+  state-row e from h = part-row callRows stateRows (stringRows ++ galleyRows) e from h
 
-  pub galley-row : Describe source galleyRows → i < 8 → RowAt (getD source i d) commands (6 + (7 + (3 + i)))
+  pub string-row : Describe source stringRows → length (callRows ++ stateRows) ≤ place →
+      place < length (callRows ++ (stateRows ++ stringRows)) → RowAt (getD source (place - length (callRows ++ stateRows)) d) commands place
   unfolding commands
-  galley-row e h =
-      in-second callRows (stateRows ++ (stringRows ++ galleyRows))
-      (in-second stateRows (stringRows ++ galleyRows) (in-second stringRows galleyRows (row-at source galleyRows e i h d)))
+  string-row e from h = part-row (callRows ++ stateRows) stringRows galleyRows e from h
+
+  pub galley-row : Describe source galleyRows → length (callRows ++ (stateRows ++ stringRows)) ≤ place → place < length commands →
+      RowAt (getD source (place - length (callRows ++ (stateRows ++ stringRows))) d) commands place
+  unfolding commands
+  galley-row e from h = part-row (callRows ++ (stateRows ++ stringRows)) galleyRows [] e from h
 
 module _ {command : Command} {rows : List Row} {i : ℕ} (at : RowAt command rows i) where
   pub name-within : command .name ≤ length (command .usage)
@@ -126,7 +133,7 @@ usage-short place =
     leb-true _ _ (every-at (λ usage. leb (length usage) 38) (map (λ row. row .usage) commands) place [] refl refl)
 
 -- as many rows, and numbers of a state, as the source has
-pub many : length commands ≡ 24
+pub many : length commands ≡ 25
 unfolding commands
 many = refl
 

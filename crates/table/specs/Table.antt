@@ -9,7 +9,9 @@ use Rattle.rules.specs.Basics.{if_then_else_}
 use Rattle.text.specs.Ascii.{ascii}
 use Rattle.text.specs.Words.{runOf}
 use Rattle.table.specs.declared.Verb.{Verb}
-use Rattle.table.specs.declared.Verb.the-variants.{Start, Write, Read, Ticks, Tach, Pin, Cabin, FanFail, Speed, Dump, Load, Show, Chart, Run, Decode, Galley, Help}
+use Rattle.table.specs.declared.Verb.the-variants.{Device, Cabin, FanFail, Speed, Dump, Load, Show, Chart, Run, Decode, Galley, Help}
+use Rattle.table.specs.declared.DeviceVerb.{DeviceVerb}
+use Rattle.table.specs.declared.DeviceVerb.the-variants as device
 use Rattle.table.specs.declared.GalleyVerb.{GalleyVerb}
 use Rattle.table.specs.declared.GalleyVerb.the-variants as galley
 use Rattle.table.specs.declared.Asks.{Asks}
@@ -60,12 +62,13 @@ stateNumbers = map (λ most. Number most) limits
 -- the calls that start and drive the device
 abbrev pub callRows : List Row
 callRows =
-    row "start WATCHDOG SPINUP TARGET FREQUENCY" Start (any ∷ any ∷ any ∷ Number 255 ∷ [])
-    ∷ rowOfKind kind.Write "write ADDRESS BYTE" Write (any ∷ Number 255 ∷ [])
-    ∷ rowOfKind kind.Read "read ADDRESS" Read (any ∷ [])
-    ∷ rowOfKind kind.Ticks "ticks N" Ticks (any ∷ [])
-    ∷ rowOfKind kind.Tachometer "tach CHANNEL COUNT" Tach (any ∷ any ∷ [])
-    ∷ rowOfKind kind.Pin "pin LEVEL" Pin (Number 1 ∷ [])
+    row "start WATCHDOG SPINUP TARGET FREQUENCY" (Device device.Start) (any ∷ any ∷ any ∷ Number 255 ∷ [])
+    ∷ rowOfKind kind.Write "write ADDRESS BYTE" (Device device.Write) (any ∷ Number 255 ∷ [])
+    ∷ rowOfKind kind.WriteWord "word ADDRESS WORD" (Device device.Word) (any ∷ Number 65_535 ∷ [])
+    ∷ rowOfKind kind.Read "read ADDRESS" (Device device.Read) (any ∷ [])
+    ∷ rowOfKind kind.Ticks "ticks N" (Device device.Ticks) (any ∷ [])
+    ∷ rowOfKind kind.Tachometer "tach CHANNEL COUNT" (Device device.Tach) (any ∷ any ∷ [])
+    ∷ rowOfKind kind.Pin "pin LEVEL" (Device device.Pin) (Number 1 ∷ [])
     ∷ []
 
 -- what is asked of a state
@@ -106,6 +109,15 @@ unfoldable pub commands : List Row
 commands = callRows ++ (stateRows ++ (stringRows ++ galleyRows))
 
 -- how many bytes an answer has at most
+abbrev pub longestOfDevice : DeviceVerb → ℕ
+longestOfDevice device.Start = 11
+longestOfDevice device.Write = 11
+longestOfDevice device.Word = 11
+longestOfDevice device.Read = 22
+longestOfDevice device.Ticks = 11
+longestOfDevice device.Tach = 11
+longestOfDevice device.Pin = 11
+
 abbrev pub longestOfGalley : GalleyVerb → ℕ
 longestOfGalley galley.Fresh = 11
 longestOfGalley galley.Sample = 33
@@ -116,12 +128,7 @@ longestOfGalley galley.Load = 3
 longestOfGalley galley.Show = 262
 
 abbrev pub longestOf : Verb → ℕ
-longestOf Start = 11
-longestOf Write = 11
-longestOf Read = 22
-longestOf Ticks = 11
-longestOf Tach = 11
-longestOf Pin = 11
+longestOf (Device verb) = longestOfDevice verb
 longestOf Cabin = 158
 longestOf FanFail = 44
 longestOf Speed = 22
@@ -132,7 +139,7 @@ longestOf Chart = 1431
 longestOf Run = 4130
 longestOf Decode = 43079
 longestOf (Galley verb) = longestOfGalley verb
-longestOf Help = 2138
+longestOf Help = 2213
 
 -- the word that a command begins with
 abbrev pub nameOf : Row → List ℕ

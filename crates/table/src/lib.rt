@@ -11,12 +11,7 @@ use text::put::put;
 
 // What a line asks for, besides the record of a call.
 pub enum Verb {
-    Start,
-    Write,
-    Read,
-    Ticks,
-    Tach,
-    Pin,
+    Device(DeviceVerb),
     Cabin,
     FanFail,
     Speed,
@@ -28,6 +23,17 @@ pub enum Verb {
     Decode,
     Galley(GalleyVerb),
     Help,
+}
+
+// What a line asks of the device, to start and drive it.
+pub enum DeviceVerb {
+    Start,
+    Write,
+    Word,
+    Read,
+    Ticks,
+    Tach,
+    Pin,
 }
 
 // What a line asks of the galley.
@@ -62,6 +68,7 @@ pub enum Kind {
     Ticks,
     Tachometer,
     Pin,
+    WriteWord,
 }
 
 // Whether a command is a call that has a kind.
@@ -96,6 +103,8 @@ const ANY: u64 = 4294967295;
 
 const BYTE: u64 = 255;
 
+const WORD: u64 = 65535;
+
 const LEVEL: u64 = 1;
 
 const ROOM: u64 = 2048;
@@ -114,7 +123,7 @@ const NONE: u64 = 0;
 
 // The rows stand in four parts, which are proved apart: the calls that start and drive the device, what is asked of a state, order
 // strings, and the galley with `help`.
-const CALL_ROWS: usize = 6;
+const CALL_ROWS: usize = 7;
 
 const STATE_ROWS: usize = 7;
 
@@ -134,7 +143,7 @@ const CALLS: [Command; CALL_ROWS] = [
         usage: *b"start WATCHDOG SPINUP TARGET FREQUENCY",
         long: 38,
         name: 5,
-        asks: Asks::For(Verb::Start),
+        asks: Asks::For(Verb::Device(DeviceVerb::Start)),
         recorded: Recorded::Not,
         count: 4,
         slots: [ANY, ANY, ANY, BYTE, NONE, NONE],
@@ -143,16 +152,25 @@ const CALLS: [Command; CALL_ROWS] = [
         usage: *b"write ADDRESS BYTE                    ",
         long: 18,
         name: 5,
-        asks: Asks::For(Verb::Write),
+        asks: Asks::For(Verb::Device(DeviceVerb::Write)),
         recorded: Recorded::As(Kind::Write),
         count: 2,
         slots: [ANY, BYTE, NONE, NONE, NONE, NONE],
     },
     Command {
+        usage: *b"word ADDRESS WORD                     ",
+        long: 17,
+        name: 4,
+        asks: Asks::For(Verb::Device(DeviceVerb::Word)),
+        recorded: Recorded::As(Kind::WriteWord),
+        count: 2,
+        slots: [ANY, WORD, NONE, NONE, NONE, NONE],
+    },
+    Command {
         usage: *b"read ADDRESS                          ",
         long: 12,
         name: 4,
-        asks: Asks::For(Verb::Read),
+        asks: Asks::For(Verb::Device(DeviceVerb::Read)),
         recorded: Recorded::As(Kind::Read),
         count: 1,
         slots: [ANY, NONE, NONE, NONE, NONE, NONE],
@@ -161,7 +179,7 @@ const CALLS: [Command; CALL_ROWS] = [
         usage: *b"ticks N                               ",
         long: 7,
         name: 5,
-        asks: Asks::For(Verb::Ticks),
+        asks: Asks::For(Verb::Device(DeviceVerb::Ticks)),
         recorded: Recorded::As(Kind::Ticks),
         count: 1,
         slots: [ANY, NONE, NONE, NONE, NONE, NONE],
@@ -170,7 +188,7 @@ const CALLS: [Command; CALL_ROWS] = [
         usage: *b"tach CHANNEL COUNT                    ",
         long: 18,
         name: 4,
-        asks: Asks::For(Verb::Tach),
+        asks: Asks::For(Verb::Device(DeviceVerb::Tach)),
         recorded: Recorded::As(Kind::Tachometer),
         count: 2,
         slots: [ANY, ANY, NONE, NONE, NONE, NONE],
@@ -179,7 +197,7 @@ const CALLS: [Command; CALL_ROWS] = [
         usage: *b"pin LEVEL                             ",
         long: 9,
         name: 3,
-        asks: Asks::For(Verb::Pin),
+        asks: Asks::For(Verb::Device(DeviceVerb::Pin)),
         recorded: Recorded::As(Kind::Pin),
         count: 1,
         slots: [LEVEL, NONE, NONE, NONE, NONE, NONE],

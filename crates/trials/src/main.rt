@@ -1,5 +1,5 @@
-// The trials that the paper has run and not proved. Each line of output is a call, its refusal number and, of a read, the
-// byte; the file stdout has what the paper says.
+// The trials that the papers have run and not proved. Each line of output is a call, its refusal number and, of a read, the
+// byte; the file stdout has what the papers say.
 use libc::STDOUT_FILENO;
 use rules::State;
 
@@ -20,6 +20,14 @@ fn write_line(name: &[u8], state: State, address: u32, byte: u8) -> State {
     answer.state
 }
 
+fn word_line(name: &[u8], state: State, address: u32, word: u16) -> State {
+    let answer = write_word::write_word(state, address, word);
+    call(name);
+    number(answer.refusal);
+    io::write_all(STDOUT_FILENO, b"\n");
+    answer.state
+}
+
 fn read_line(name: &[u8], state: State, address: u32) -> State {
     let answer = read::read(state, address);
     call(name);
@@ -28,6 +36,14 @@ fn read_line(name: &[u8], state: State, address: u32) -> State {
     number(answer.byte);
     io::write_all(STDOUT_FILENO, b"\n");
     answer.state
+}
+
+// Words to an absent address, to a register that can only be read, to one of a byte, and to an odd address.
+fn refused_words(state: State) -> State {
+    let a = word_line(b"word 3Ch 6400h", state, 0x3C, 0x6400);
+    let b = word_line(b"word 18h 6400h", a, 0x18, 0x6400);
+    let c = word_line(b"word 02h 6400h", b, 0x02, 0x6400);
+    word_line(b"word 41h 6400h", c, 0x41, 0x6400)
 }
 
 fn main() {
@@ -39,9 +55,11 @@ fn main() {
     let a = read_line(b"read 0Eh", begun.state, 0x0E);
     let b = write_line(b"write 11h 00h", a, 0x11, 0x00);
     let c = write_line(b"write 02h 80h", b, 0x02, 0x80);
-    let d = write_line(b"write 40h 64h", c, 0x40, 0x64);
-    let e = read_line(b"read 40h", d, 0x40);
-    let f = write_line(b"write 00h C0h", e, 0x00, 0xC0);
-    let g = read_line(b"read 00h", f, 0x00);
-    read_line(b"read 40h", g, 0x40);
+    let d = write_line(b"write 41h 85h", c, 0x41, 0x85);
+    let e = refused_words(d);
+    let f = word_line(b"word 40h 6400h", e, 0x40, 0x6400);
+    let g = read_line(b"read 40h", f, 0x40);
+    let h = write_line(b"write 00h C0h", g, 0x00, 0xC0);
+    let i = read_line(b"read 00h", h, 0x00);
+    read_line(b"read 40h", i, 0x40);
 }

@@ -1,7 +1,7 @@
 // Duties and counts as the words that the registers show, and back. Every function takes any number: a duty counts
 // modulo 512, a count modulo 2,048, and the bits of a word that show no number are dropped.
 ghost use mathlib.Core.Path.{_≡_};
-ghost use Rattle.rules.specs.Words.{dutyWord, wordDuty, countWord, wordCount, outputWord, wordByte, withByte};
+ghost use Rattle.rules.specs.Words.{dutyWord, wordDuty, countWord, wordCount, outputWord, wordByte};
 
 // The word of a target duty (40h to 4Bh).
 pub fn duty_word(duty: u16) -> u16
@@ -49,14 +49,4 @@ pub fn word_byte(word: u16, low: bool) -> u8
         return (word % 256) as u8;
     }
     (word / 256) as u8
-}
-
-// The word with its low or its high byte replaced.
-pub fn with_byte(word: u16, low: bool, byte: u8) -> u16
-    ensures { λ r. ⌜ r ≡ withByte low word byte ⌝ }
-{
-    if low {
-        return word / 256 * 256 + byte as u16;
-    }
-    byte as u16 * 256 + word % 256
 }

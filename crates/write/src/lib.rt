@@ -1,11 +1,13 @@
-// The call write.
+// The call write, of a byte.
 ghost use mathlib.Core.Path.{_≡_};
 ghost use mathlib.Core.List.{map};
 ghost use Prim.Native.Nat.{_<_};
 ghost use Rattle.rules.specs.declared.BoxRegister.the-variants.{Control};
 ghost use Rattle.rules.specs.declared.ChannelRegister.the-variants.{Config};
+ghost use Rattle.rules.specs.declared.Place.the-variants.{Own};
 ghost use Rattle.rules.specs.Map.{indexOf};
-ghost use Rattle.rules.specs.Write.{stopped, channelWritten, boxWritten, ownWritten, written, byteRefusal, writeRefusal, writeOf};
+ghost use Rattle.rules.specs.Calls.{unlessRefused, accessed};
+ghost use Rattle.rules.specs.Write.{stopped, channelWritten, boxWritten, ownWritten, written, writeRefusal, writeOf};
 use device::answer::answered;
 use device::fresh::as_at_start;
 use device::valid::valid;
@@ -29,11 +31,7 @@ use rules::Place;
 use rules::READ_ONLY;
 use rules::STATE_NOT_VALID;
 use rules::State;
-use words::count_word;
-use words::duty_word;
-use words::with_byte;
-use words::word_count;
-use words::word_duty;
+use rules::WRONG_WIDTH;
 
 fn stopped(channel: Channel) -> Channel
     ensures { λ r. ⌜ r ≡ stopped channel ⌝ }
@@ -75,16 +73,6 @@ fn channel_written(channel: Channel, byte: u8, register: ChannelRegister) -> Cha
         ChannelRegister::Config => configured(channel, byte),
         ChannelRegister::Dynamics => {
             next.dynamics = dynamics_kept(byte);
-            next
-        }
-        ChannelRegister::Target(low) => {
-            next.target = word_duty(with_byte(duty_word(channel.target), low, byte));
-            next.queue = 0;
-            next.fault = false;
-            next
-        }
-        ChannelRegister::TargetCount(low) => {
-            next.target_count = word_count(with_byte(count_word(channel.target_count), low, byte));
             next
         }
         ChannelRegister::Window => {
@@ -150,20 +138,9 @@ fn own_written(state: State, byte: u8, register: ChannelRegister, i: usize) -> S
     next
 }
 
-fn written(state: State, byte: u8, place: Place) -> State
-    requires { ⌜ indexOf place < 6 ⌝ }
-    ensures { λ r. ⌜ r ≡ written state byte place ⌝ }
-{
-    match place {
-        Place::Absent => state,
-        Place::ReadOnly(_) => state,
-        Place::Shared(register) => box_written(state, byte, register),
-        Place::Own(register, i) => own_written(state, byte, register, i),
-    }
-}
-
+// Refusal 4, which a channel's index does not change.
 fn byte_refusal(register: ChannelRegister, byte: u8) -> u8
-    ensures { λ r. ⌜ r ≡ byteRefusal register byte ⌝ }
+    ensures { λ r. ⌜ r ≡ writeRefusal (Own register 0) byte ⌝ }
 {
     match register {
         ChannelRegister::Config => {
@@ -173,21 +150,28 @@ fn byte_refusal(register: ChannelRegister, byte: u8) -> u8
             ACCEPTED
         }
         ChannelRegister::Dynamics => ACCEPTED,
-        ChannelRegister::Target(_) => ACCEPTED,
-        ChannelRegister::TargetCount(_) => ACCEPTED,
         ChannelRegister::Window => ACCEPTED,
     }
 }
 
-// Why a byte cannot be written to a place, or 0.
-fn write_refusal(place: Place, byte: u8) -> u8
-    ensures { λ r. ⌜ r ≡ writeRefusal place byte ⌝ }
+// A byte goes to what stands at an address, or is refused there.
+fn byte_at(state: State, byte: u8, place: Place) -> Answer
+    requires { ⌜ indexOf place < 6 ⌝ }
+    ensures { λ r. ⌜ r ≡ unlessRefused (writeRefusal place byte) state (written (accessed state) byte place) ⌝ }
 {
     match place {
-        Place::Absent => NOT_CARRIED,
-        Place::ReadOnly(_) => READ_ONLY,
-        Place::Shared(_) => ACCEPTED,
-        Place::Own(register, _) => byte_refusal(register, byte),
+        Place::Absent => answered(NOT_CARRIED, state),
+        Place::ReadOnly(_) => answered(READ_ONLY, state),
+        Place::Shared(register) => answered(ACCEPTED, box_written(accessed(state), byte, register)),
+        Place::Own(register, i) => {
+            let fed = accessed(state);
+            let refusal = byte_refusal(register, byte);
+            if refusal != ACCEPTED {
+                return answered(refusal, state);
+            }
+            answered(ACCEPTED, own_written(fed, byte, register, i))
+        }
+        Place::OwnWord(_, _, _) => answered(WRONG_WIDTH, state),
     }
 }
 
@@ -198,11 +182,5 @@ pub fn write(state: State, address: u32, byte: u8) -> Answer
     if !valid(state) {
         return answered(STATE_NOT_VALID, state);
     }
-    let fed = accessed(state);
-    let place = place_at(address);
-    let refusal = write_refusal(place, byte);
-    if refusal != ACCEPTED {
-        return answered(refusal, state);
-    }
-    answered(ACCEPTED, written(fed, byte, place))
+    byte_at(state, byte, place_at(address))
 }

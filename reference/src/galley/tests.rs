@@ -3,7 +3,7 @@
 
 use super::*;
 use crate::choices::galley::{tables_about, temperature_about};
-use crate::model::{start, ticks, write, STATUS, TACHOMETER_ENABLED};
+use crate::model::{start, ticks, write, write_word, STATUS, TACHOMETER_ENABLED};
 use crate::random::Random;
 use crate::states::galley::{flawed_galley, sound_galley, GALLEY_FLAWS};
 use crate::states::sound_state;
@@ -193,21 +193,10 @@ fn a_sample_makes_the_controllers_own_writes() {
     let mut controller = controller_at(300);
     controller.channels[1].target = 511;
     controller.channels[4].target = 510;
-    // FFh is duty 511, the word FF80h. Channel 2 has it.
+    // FFh is duty 511, the word FF80h. Channel 2 has it: one word each for the other five.
     let mut by_hand = controller;
-    for (address, byte) in [
-        (0x40, 0xFF),
-        (0x41, 0x80),
-        (0x44, 0xFF),
-        (0x45, 0x80),
-        (0x46, 0xFF),
-        (0x47, 0x80),
-        (0x48, 0xFF),
-        (0x49, 0x80),
-        (0x4A, 0xFF),
-        (0x4B, 0x80),
-    ] {
-        by_hand = write(&by_hand, address, byte).1;
+    for address in [0x40, 0x44, 0x46, 0x48, 0x4A] {
+        by_hand = write_word(&by_hand, address, 0xFF80).1;
     }
     let next = sampled(&galley_in(0, false), &controller, 0, &level(0xFF));
     assert_eq!(next, by_hand);

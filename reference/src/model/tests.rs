@@ -43,6 +43,13 @@ fn written(state: &State, address: u32, byte: u8) -> State {
     next
 }
 
+fn word_written(state: &State, address: u32, word: u16) -> State {
+    let (refusal, next) = write_word(state, address, word);
+    assert_eq!(refusal, ACCEPTED);
+    assert!(sound(&next));
+    next
+}
+
 fn byte_at(state: &State, address: u32) -> u8 {
     let (refusal, byte, next) = read(state, address);
     assert_eq!(refusal, ACCEPTED);
@@ -414,10 +421,6 @@ fn kept_bits_of_a_written_byte() {
         (0x12, 0xFF, 0x3F),
         (0x13, 0xFF, 0x3F),
         (0x14, 0xFF, 0xEF),
-        (0x40, 0xFF, 0xFF),
-        (0x41, 0xFF, 0x80),
-        (0x50, 0xFF, 0xFF),
-        (0x51, 0xFF, 0xE0),
         (0x65, 0xFF, 0xFF),
     ];
     for (address, byte, shown) in kept {
@@ -426,19 +429,139 @@ fn kept_bits_of_a_written_byte() {
 }
 
 #[test]
-fn a_target_byte_keeps_the_other_half() {
-    let mut state = written(&quiet(), 0x4A, 0xFF);
-    assert_eq!(state.channels[5].target, 510);
-    state = written(&state, 0x4B, 0x80);
-    assert_eq!(state.channels[5].target, 511);
-    // Bit 0 of the low byte at 511 is the output duty's alone.
-    assert_eq!(byte_at(&state, 0x4B), 0x80);
-    state = written(&state, 0x4A, 0x00);
-    assert_eq!(state.channels[5].target, 1);
-    state = written(&state, 0x52, 0x80);
-    assert_eq!(state.channels[1].target_count, 1024);
-    state = written(&state, 0x53, 0xFF);
-    assert_eq!(state.channels[1].target_count, 1031);
+fn a_word_to_a_duty_is_stored_without_its_low_bits() {
+    for (word, duty, high, low) in [
+        (0x0000, 0, 0x00, 0x00),
+        (0x007F, 0, 0x00, 0x00),
+        (0x0080, 1, 0x00, 0x80),
+        (0x00FF, 1, 0x00, 0x80),
+        (0x0100, 2, 0x01, 0x00),
+        (0x6400, 200, 0x64, 0x00),
+        (0x64E5, 201, 0x64, 0x80),
+        (0xFF7F, 510, 0xFF, 0x00),
+        (0xFF80, 511, 0xFF, 0x80),
+        // Bit 0 of the low byte at 511 is the output duty's alone.
+        (0xFFFF, 511, 0xFF, 0x80),
+    ] {
+        let state = word_written(&quiet(), 0x4A, word);
+        assert_eq!(state.channels[5].target, duty);
+        assert_eq!((byte_at(&state, 0x4A), byte_at(&state, 0x4B)), (high, low));
+    }
+}
+
+#[test]
+fn a_word_to_a_count_is_stored_without_its_low_bits() {
+    for (word, count, high, low) in [
+        (0x0000, 0, 0x00, 0x00),
+        (0x001F, 0, 0x00, 0x00),
+        (0x0020, 1, 0x00, 0x20),
+        (0x003F, 1, 0x00, 0x20),
+        (0x8000, 1024, 0x80, 0x00),
+        (0x80FF, 1031, 0x80, 0xE0),
+        (0xFFDF, 2046, 0xFF, 0xC0),
+        (0xFFE0, 2047, 0xFF, 0xE0),
+        (0xFFFF, 2047, 0xFF, 0xE0),
+    ] {
+        let state = word_written(&quiet(), 0x52, word);
+        assert_eq!(state.channels[1].target_count, count);
+        assert_eq!((byte_at(&state, 0x52), byte_at(&state, 0x53)), (high, low));
+    }
+}
+
+#[test]
+fn a_word_changes_the_target_of_its_channel_alone() {
+    for index in 0..CHANNELS {
+        let mut expected = quiet();
+        expected.channels[index].target = 300;
+        let address = 0x40 + 2 * index as u32;
+        assert_eq!(word_written(&quiet(), address, 0x9600), expected);
+        let mut expected = quiet();
+        expected.channels[index].target_count = 1000;
+        let address = 0x50 + 2 * index as u32;
+        assert_eq!(word_written(&quiet(), address, 0x7D00), expected);
+    }
+}
+
+#[test]
+fn refusals_of_a_byte_write_come_in_their_order() {
+    let state = quiet();
+    for (address, refusal) in [
+        (0x3B, 3),
+        (0x3C, 2),
+        (0x3F, 2),
+        (0x40, 8),
+        (0x41, 8),
+        (0x4A, 8),
+        (0x4B, 8),
+        (0x4C, 2),
+        (0x4F, 2),
+        (0x50, 8),
+        (0x5B, 8),
+        (0x5C, 2),
+        (0x5F, 2),
+        (0x11, 3),
+        (0x02, 4),
+        (0x07, 4),
+        (0x140, 2),
+        (0x1_0050, 2),
+        (0xFFFF_FF40, 2),
+    ] {
+        // These bits are refusal 4's.
+        assert_eq!(write(&state, address, 0x85), (refusal, state));
+    }
+    for address in [0x40, 0x4B, 0x50, 0x5B] {
+        for byte in [0x00, 0x80, 0xE0, 0xFF] {
+            assert_eq!(write(&state, address, byte), (BYTE_OR_WORD, state));
+        }
+    }
+    for address in [0x01, 0x08, 0x0D, 0x12, 0x13, 0x14, 0x60, 0x65] {
+        assert_eq!(write(&state, address, 0x85).0, ACCEPTED);
+    }
+}
+
+#[test]
+fn refusals_of_a_word_write_come_in_their_order() {
+    let state = quiet();
+    let beside_the_rows = [0x0E, 0x16, 0x3C, 0x3E, 0x4C, 0x4E, 0x5C, 0x5E, 0x66];
+    let far_away = [0x140, 0x1_0050, 0xFFFF_FF40, u32::MAX];
+    let read_only = [0x10, 0x11, 0x18, 0x3A, 0x3B];
+    let of_bytes = [0x00, 0x01, 0x02, 0x0D, 0x12, 0x13, 0x14, 0x60, 0x65];
+    let odd = [0x41, 0x4B, 0x51, 0x5B];
+    for (refusal, addresses) in [
+        (2, &beside_the_rows[..]),
+        (2, &far_away),
+        (3, &read_only),
+        (8, &of_bytes),
+        (8, &odd),
+    ] {
+        for &address in addresses {
+            for word in [0x0000, 0x0080, 0x8585, 0xFFFF] {
+                assert_eq!(write_word(&state, address, word), (refusal, state));
+            }
+        }
+    }
+    for address in [0x40, 0x42, 0x4A, 0x50, 0x52, 0x5A] {
+        assert_eq!(write_word(&state, address, 0xFFFF).0, ACCEPTED);
+    }
+}
+
+#[test]
+fn a_register_takes_a_byte_or_has_half_of_a_word() {
+    let refused = |refusal: u32, by: fn(&State, u32) -> u32| {
+        let refusals = (0..0x1000).map(|address| by(&quiet(), address));
+        refusals.filter(|&number| number == refusal).count()
+    };
+    let byte = |state: &State, address| write(state, address, 0x00).0;
+    let word = |state: &State, address| write_word(state, address, 0x0000).0;
+    // 85 are carried: 38 of them read-only, 24 of targets, 23 others.
+    assert_eq!(refused(ACCEPTED, byte), 23);
+    assert_eq!(refused(BYTE_OR_WORD, byte), 24);
+    assert_eq!(refused(ACCEPTED, word), 12);
+    assert_eq!(refused(BYTE_OR_WORD, word), 12 + 23);
+    for either in [byte, word] {
+        assert_eq!(refused(READ_ONLY, either), 38);
+        assert_eq!(refused(NOT_CARRIED, either), 4096 - 85);
+    }
 }
 
 #[test]
@@ -546,11 +669,66 @@ fn other_calls_do_not_feed_the_watchdog() {
     assert_eq!(counting.idle, 100);
     assert_eq!(write(&counting, 0x11, 0).1.idle, 100);
     assert_eq!(write(&counting, 0x02, 0x01).1.idle, 100);
+    assert_eq!(write(&counting, 0x40, 0x64).1.idle, 100);
     assert_eq!(read(&counting, 0x3C).2.idle, 100);
     assert_eq!(with_result(&counting, 1, 5).idle, 100);
     assert_eq!(pin(&counting, false).1.idle, 100);
     assert_eq!(read(&counting, 0x3B).2.idle, 0);
     assert_eq!(written(&counting, 0x12, 0).idle, 0);
+}
+
+#[test]
+fn an_accepted_word_is_an_access_and_a_refused_one_is_none() {
+    let on = written(&quiet(), 0x00, 0x02);
+    let (counting, expired) = (after(&on, 2559), after(&on, 2560));
+    assert_eq!((counting.idle, counting.expired), (2559, false));
+    assert_eq!((expired.idle, expired.expired), (2560, true));
+    for state in [counting, expired] {
+        for address in [0x00, 0x02, 0x18, 0x3C, 0x41, 0x4C, 0x51, 0x60, 0x140] {
+            let (refusal, next) = write_word(&state, address, 0x6400);
+            assert_ne!(refusal, ACCEPTED);
+            assert_eq!(next, state);
+        }
+        for address in [0x40, 0x4A, 0x50, 0x5A] {
+            let next = word_written(&state, address, 0x6400);
+            assert_eq!((next.idle, next.expired), (0, false));
+            // The status bit is cleared by a read of 00h alone.
+            assert_eq!(next.control, state.control);
+        }
+    }
+    assert!(after(&word_written(&counting, 0x40, 0), 2560).expired);
+    assert!(!after(&word_written(&counting, 0x40, 0), 2559).expired);
+}
+
+// A target in one go
+
+#[test]
+fn a_small_duty_in_one_go_starts_no_spin_up() {
+    let mut state = ramping(0, 200, 200, rate(0));
+    state.channels[0].config = 1 << 5;
+    let set = word_written(&state, 0x40, 0x0080);
+    assert_eq!((set.channels[0].ramp, set.channels[0].target), (200, 1));
+    for count in [1, 2, 300] {
+        let next = after(&set, count);
+        assert_eq!((next.channels[0].ramp, next.channels[0].spin), (1, 0));
+    }
+    // By way of 0 it is another matter: spin-up is due from there.
+    let stopped = after(&word_written(&state, 0x40, 0x0000), 1);
+    assert_eq!((stopped.channels[0].ramp, stopped.channels[0].spin), (0, 0));
+    let next = after(&word_written(&stopped, 0x40, 0x0080), 1);
+    assert_eq!((next.channels[0].ramp, next.channels[0].spin), (511, 256));
+}
+
+#[test]
+fn a_word_moves_no_ramp_and_ends_no_spin_up() {
+    let mut state = ramping(0, 100, 100, rate(3));
+    state.channels[1].ramp = 511;
+    state.channels[1].spin = 7;
+    let mut expected = state;
+    expected.channels[0].target = 511;
+    expected.channels[1].target = 0;
+    let next = word_written(&word_written(&state, 0x40, 0xFF80), 0x42, 0x0000);
+    assert_eq!(next, expected);
 }
 
 // Tachometer results
@@ -661,22 +839,30 @@ fn queue_lengths_and_the_cap() {
 }
 
 #[test]
-fn a_target_duty_write_clears_fault_and_queue_of_its_channel() {
+fn a_word_to_a_duty_clears_fault_and_queue_of_its_channel() {
     let mut state = watched(0);
     state.faults = 0x03;
     state.channels[0].queue = 4;
     state.channels[1].queue = 5;
-    for address in [0x42, 0x43] {
-        let next = written(&state, address, 0x10);
+    // The present target, 0, is as good as another one.
+    for word in [0x0000, 0x1000] {
+        let next = word_written(&state, 0x42, word);
         assert_eq!(
             (next.faults, next.channels[0].queue, next.channels[1].queue),
             (1, 4, 0)
         );
     }
-    let others = [0x02, 0x08, 0x13, 0x14, 0x50, 0x51, 0x60];
-    for address in others {
+    for address in [0x02, 0x08, 0x13, 0x14, 0x60] {
         let next = written(&state, address, 0x00);
         assert_eq!((next.faults, next.channels[0].queue), (3, 4));
+    }
+    let counted = word_written(&state, 0x50, 0x1000);
+    assert_eq!((counted.faults, counted.channels[0].queue), (3, 4));
+    for (address, refusal) in [(0x41, 8), (0x3C, 2), (0x30, 3)] {
+        assert_eq!(write_word(&state, address, 0x1000), (refusal, state));
+    }
+    for address in [0x40, 0x41] {
+        assert_eq!(write(&state, address, 0x10), (BYTE_OR_WORD, state));
     }
     assert_eq!(read(&state, 0x11).2.faults, 3);
 }
@@ -741,7 +927,10 @@ fn spoils(change: impl Fn(&mut State)) {
     let mut state = ramping(0, 300, 300, rate(3));
     change(&mut state);
     assert!(!sound(&state), "{state:?}");
-    assert_eq!(write(&state, 0xFFFF, 0), (NOT_SOUND, state));
+    for address in [0x02, 0x11, 0x40, 0x41, 0xFFFF] {
+        assert_eq!(write(&state, address, 0x80), (NOT_SOUND, state));
+        assert_eq!(write_word(&state, address, 0x0080), (NOT_SOUND, state));
+    }
     assert_eq!(read(&state, 0xFFFF), (NOT_SOUND, 0, state));
     assert_eq!(ticks(&state, 0), (NOT_SOUND, state));
     assert_eq!(ticks(&state, 9), (NOT_SOUND, state));
@@ -866,7 +1055,9 @@ fn states_after_sound_ones_are_sound() {
         let byte = random.byte();
         let channel = random.between(1, 6);
         let count = random.below(2100);
+        let word = random.any() as u16;
         assert!(sound(&write(&state, address, byte).1));
+        assert!(sound(&write_word(&state, address, word).1));
         assert!(sound(&read(&state, address).2));
         assert!(sound(&tachometer(&state, channel, count).1));
         assert!(sound(&ticks(&state, count).1));

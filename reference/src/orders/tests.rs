@@ -1,7 +1,7 @@
 //! Numbers in bytes and back, the refusals of odd strings and their order, and runs in parts.
 
 use super::*;
-use crate::model::{CONFIGURATION, NOT_CARRIED, NO_SUCH_CHANNEL, READ_ONLY};
+use crate::model::{BYTE_OR_WORD, CONFIGURATION, NOT_CARRIED, NO_SUCH_CHANNEL, READ_ONLY};
 use crate::random::Random;
 use crate::states::sound_state;
 use crate::strings::{any_record, string_of};
@@ -64,7 +64,8 @@ fn numbers_that_are_malformed() {
 
 #[test]
 fn an_unknown_kind_is_refused_as_soon_as_it_is_read() {
-    for kind in [5, 6, 127, 128, 256, 260, 65_536, u32::MAX] {
+    let first_unknown = KINDS.len() as u32;
+    for kind in [first_unknown, 8, 127, 128, 133, 256, 261, 65_536, u32::MAX] {
         let bytes = number_bytes(kind);
         assert_eq!(outcome(&bytes), (KIND_OR_VALUE, 0));
         let malformed_number = [&bytes[..], &[0x80, 0x00]].concat();
@@ -84,10 +85,61 @@ fn a_value_is_refused_once_the_record_is_read() {
     assert_eq!(outcome(&[4, 1]), (ACCEPTED, 1));
     assert_eq!(outcome(&[4, 2]), (KIND_OR_VALUE, 0));
     assert_eq!(outcome(&[4]), (ENDS_FIRST, 0));
-    // Before the call's own refusal: not carried, read-only, configuration.
-    for address in [0x0E, 0x11, 0x02] {
+    // Before the call's own refusal: not carried, read-only, of a target, configuration.
+    for address in [0x0E, 0x11, 0x40, 0x02] {
         assert_eq!(outcome(&[0, address, 0x80, 0x02]), (KIND_OR_VALUE, 0));
     }
+}
+
+#[test]
+fn a_word_above_65535_is_refused_once_the_record_is_read() {
+    let word = |address, value| outcome(&record_bytes(&[5, address, value]));
+    // 65,535 is FFh, FFh, 03h and 65,536 is 80h, 80h, 04h.
+    assert_eq!(outcome(&[5, 0x40, 0xFF, 0xFF, 0x03]), (ACCEPTED, 1));
+    assert_eq!(outcome(&[5, 0x40, 0x80, 0x80, 0x04]), (KIND_OR_VALUE, 0));
+    for value in [65_536, 65_664, 131_071, 1 << 24, u32::MAX] {
+        assert_eq!(word(0x40, value), (KIND_OR_VALUE, 0));
+        assert_eq!(word(0x5A, value), (KIND_OR_VALUE, 0));
+    }
+    // Before the call's own refusal: not carried, read-only, elsewhere than a target, odd.
+    for (address, refusal) in [
+        (0x3C, NOT_CARRIED),
+        (0x140, NOT_CARRIED),
+        (0x18, READ_ONLY),
+        (0x02, BYTE_OR_WORD),
+        (0x41, BYTE_OR_WORD),
+    ] {
+        assert_eq!(word(address, 65_535), (refusal, 0));
+        assert_eq!(word(address, 65_536), (KIND_OR_VALUE, 0));
+    }
+    // After the number's own: this one is longer than it need be, those end first.
+    assert_eq!(
+        outcome(&[5, 0x40, 0x80, 0x80, 0x84, 0x00]),
+        (LAST_BYTE_ZERO, 0)
+    );
+    for string in [&[5][..], &[5, 0x40], &[5, 0x3C], &[5, 0x40, 0x80, 0x80]] {
+        assert_eq!(outcome(string), (ENDS_FIRST, 0));
+    }
+}
+
+#[test]
+fn a_word_in_a_string_is_written_in_one_go() {
+    // 9600h (80h, ACh, 02h) to 42h, 7D1Fh (9Fh, FAh, 01h) to 5Ah, and the four bytes read back.
+    let string = [
+        5, 0x42, 0x80, 0xAC, 0x02, 5, 0x5A, 0x9F, 0xFA, 0x01, 1, 0x42, 1, 0x43, 1, 0x5A, 1, 0x5B,
+    ];
+    let mut state = fresh();
+    state.faults = 0x3F;
+    state.channels[1].queue = 2;
+    let mut buffer = [0x33; 18];
+    let done = run(&state, &string, u32::MAX, &mut buffer);
+    assert_eq!((done.refusal, done.taken, done.written), (ACCEPTED, 6, 4));
+    assert_eq!(buffer[..5], [0x96, 0x00, 0x7D, 0x00, 0x33]);
+    state.faults = 0x3D;
+    state.channels[1].queue = 0;
+    state.channels[1].target = 300;
+    state.channels[5].target_count = 1000;
+    assert_eq!(done.state, state);
 }
 
 #[test]
@@ -108,6 +160,13 @@ fn refusals_of_the_calls() {
         (vec![1, u32::MAX], NOT_CARRIED),
         (vec![0, 0x11, 0], READ_ONLY),
         (vec![0, 0x02, 0x80], CONFIGURATION),
+        (vec![0, 0x40, 0], BYTE_OR_WORD),
+        (vec![0, 0x5B, 0xFF], BYTE_OR_WORD),
+        (vec![5, 0x3C, 0x6400], NOT_CARRIED),
+        (vec![5, u32::MAX, 0x6400], NOT_CARRIED),
+        (vec![5, 0x18, 0x6400], READ_ONLY),
+        (vec![5, 0x41, 0x6400], BYTE_OR_WORD),
+        (vec![5, 0x00, 0x6400], BYTE_OR_WORD),
         (vec![3, 0, 5], NO_SUCH_CHANNEL),
         (vec![3, 257, 5], NO_SUCH_CHANNEL),
     ] {

@@ -5,34 +5,31 @@ use Rattle.bench_galley.proofs.writing.Statement.{statement}
 use Rattle.bench_galley.proofs.writing.Tie as tie
 
 abbrev Inv-loop : tie.InvT-loop
-Inv-loop table high next₀ i₀ next i = i ≤ 6
+Inv-loop table word next₀ i₀ next i = i ≤ 6
 
 abbrev μ-loop : tie.MeasureT-loop
-μ-loop table high next₀ i₀ next i = 6 - i
+μ-loop table word next₀ i₀ next i = 6 - i
 
 first-of-requires : tie.Need-first-of-requires Inv-loop μ-loop
 first-of-requires c κs = tt
 
+cast-word : tie.Need-cast-word Inv-loop μ-loop
+cast-word c = search needs
+
+mul-word : tie.Need-mul-word Inv-loop μ-loop
+mul-word c = search needs
+
 loop-holds : tie.Need-loop-holds Inv-loop μ-loop
 loop-holds c = search needs
 
-mul-write : tie.Need-mul-write Inv-loop μ-loop
-mul-write c = search needs
+mul-write-word : tie.Need-mul-write-word Inv-loop μ-loop
+mul-write-word c = search needs
 
-add-write : tie.Need-add-write Inv-loop μ-loop
-add-write c = search needs
+add-write-word : tie.Need-add-write-word Inv-loop μ-loop
+add-write-word c = search needs
 
-write-requires : tie.Need-write-requires Inv-loop μ-loop
-write-requires c κs = tt
-
-mul-write-2 : tie.Need-mul-write-2 Inv-loop μ-loop
-mul-write-2 c = search needs
-
-add-write-2 : tie.Need-add-write-2 Inv-loop μ-loop
-add-write-2 c = search needs
-
-write-requires-2 : tie.Need-write-requires-2 Inv-loop μ-loop
-write-requires-2 c κs = tt
+write-word-requires : tie.Need-write-word-requires Inv-loop μ-loop
+write-word-requires c κs = tt
 
 add-i : tie.Need-add-i Inv-loop μ-loop
 add-i c = search needs
@@ -53,13 +50,12 @@ writing-spec =
     Inv-loop
     μ-loop
     first-of-requires
+    cast-word
+    mul-word
     loop-holds
-    mul-write
-    add-write
-    write-requires
-    mul-write-2
-    add-write-2
-    write-requires-2
+    mul-write-word
+    add-write-word
+    write-word-requires
     add-i
     loop-less
     loop-again

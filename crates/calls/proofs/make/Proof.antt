@@ -47,6 +47,15 @@ set-pin-requires c κs = tt
 without-byte-requires-4 : tie.Need-without-byte-requires-4
 without-byte-requires-4 c κs = tt
 
+enum-known-call-6 : tie.Need-enum-known-call-6
+enum-known-call-6 c = search needs
+
+write-word-requires : tie.Need-write-word-requires
+write-word-requires c κs = tt
+
+without-byte-requires-5 : tie.Need-without-byte-requires-5
+without-byte-requires-5 c κs = tt
+
 returns : tie.Need-returns
 unfolding made
 returns c =
@@ -71,6 +80,11 @@ unfolding made
 returns-5 c =
     rw (c .before .before .before .call5 .given .1) (c .without-byte4 .ensures ∙ ap withoutByte (c .before .set-pin .ensures))
 
+returns-6 : tie.Need-returns-6
+unfolding made
+returns-6 c =
+    rw (c .before .before .before .call6 .given .1) (c .without-byte5 .ensures ∙ ap withoutByte (c .before .write-word .ensures))
+
 pub make-spec : {M : Type 1} → statement M
 make-spec =
     tie.close
@@ -89,8 +103,12 @@ make-spec =
     enum-known-call-5
     set-pin-requires
     without-byte-requires-4
+    enum-known-call-6
+    write-word-requires
+    without-byte-requires-5
     returns
     returns-2
     returns-3
     returns-4
-    returns-5)
+    returns-5
+    returns-6)

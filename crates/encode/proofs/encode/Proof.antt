@@ -49,6 +49,15 @@ slice-aggregate-put-numbers-5 c = search needs
 put-numbers-requires-5 : tie.Need-put-numbers-requires-5
 put-numbers-requires-5 c κs = tt
 
+enum-known-order-6 : tie.Need-enum-known-order-6
+enum-known-order-6 c = search needs
+
+slice-aggregate-put-numbers-6 : tie.Need-slice-aggregate-put-numbers-6
+slice-aggregate-put-numbers-6 c = search needs
+
+put-numbers-requires-6 : tie.Need-put-numbers-requires-6
+put-numbers-requires-6 c κs = tt
+
 same-length : tie.Need-same-length
 same-length c = search needs
 
@@ -84,6 +93,13 @@ returns-5 : tie.Need-returns-5
 unfolding encoded
 returns-5 c = rw (c .before .before .before .before .before .before .order5 .given .1) (c .before .before .put-numbers5 .ensures)
 
+same-length-6 : tie.Need-same-length-6
+same-length-6 c = search needs
+
+returns-6 : tie.Need-returns-6
+unfolding encoded
+returns-6 c = rw (c .before .before .before .before .before .before .order6 .given .1) (c .before .before .put-numbers6 .ensures)
+
 pub encode-spec : {M : Type 1} → statement M
 encode-spec =
     tie.close
@@ -103,6 +119,9 @@ encode-spec =
     enum-known-order-5
     slice-aggregate-put-numbers-5
     put-numbers-requires-5
+    enum-known-order-6
+    slice-aggregate-put-numbers-6
+    put-numbers-requires-6
     same-length
     returns
     same-length-2
@@ -112,4 +131,6 @@ encode-spec =
     same-length-4
     returns-4
     same-length-5
-    returns-5)
+    returns-5
+    same-length-6
+    returns-6)

@@ -12,6 +12,9 @@ use Rattle.read.proofs.place_byte.Tie as tie
 own-index : (c : tie.After-known-told3) → c .before .place3 .given .0 .1 .0 < 6
 own-index c = subst (λ (p : Place). indexOf p < 6) (c .before .place3 .given .1) (c .before .before .before .pre)
 
+own-word-index : (c : tie.After-known-told4) → c .before .place4 .given .0 .1 .0 < 6
+own-word-index c = subst (λ (p : Place). indexOf p < 6) (c .before .place4 .given .1) (c .before .before .before .pre)
+
 enum-told : tie.Need-enum-told
 enum-told c = search needs
 
@@ -39,6 +42,21 @@ element-copy-out-channel-byte c = own-index c
 channel-byte-requires : tie.Need-channel-byte-requires
 channel-byte-requires c κs = tt
 
+enum-known-place-4 : tie.Need-enum-known-place-4
+enum-known-place-4 c = search needs
+
+mul-target-word : tie.Need-mul-target-word
+mul-target-word c = omega (arith, own-word-index c)
+
+element-copy-out-target-word : tie.Need-element-copy-out-target-word
+element-copy-out-target-word c = own-word-index c
+
+target-word-requires : tie.Need-target-word-requires
+target-word-requires c κs = tt
+
+word-byte-requires : tie.Need-word-byte-requires
+word-byte-requires c κs = tt
+
 returns : tie.Need-returns
 unfolding placeByte
 returns c = rw (c .enum-told .given .1) refl
@@ -55,6 +73,10 @@ returns-4 : tie.Need-returns-4
 unfolding placeByte
 returns-4 c = rw (c .before .before .before .place3 .given .1) (c .channel-byte .ensures)
 
+returns-5 : tie.Need-returns-5
+unfolding placeByte
+returns-5 c = rw (c .before .before .before .before .place4 .given .1) (rw (c .before .target-word .ensures) at (c .word-byte .ensures))
+
 pub place-byte-spec : {M : Type 1} → statement M
 place-byte-spec =
     tie.close
@@ -68,7 +90,13 @@ place-byte-spec =
     mul-channel-byte
     element-copy-out-channel-byte
     channel-byte-requires
+    enum-known-place-4
+    mul-target-word
+    element-copy-out-target-word
+    target-word-requires
+    word-byte-requires
     returns
     returns-2
     returns-3
-    returns-4)
+    returns-4
+    returns-5)

@@ -1,9 +1,5 @@
 -- `row` meets its contract. Assumes nothing.
-use Prim.Native.Nat.{_+_, _-_}
-use mathlib.Core.Path.{_≡_, subst}
 use native.Mathlib.Omega.{arith}
-use Rattle.table.specs.Table.{commands}
-use Rattle.table.specs.Rows.{RowAt}
 use Rattle.table.proofs.Rows.{many, call-row, state-row, string-row, galley-row}
 use borrow.Author.Needs.{needs}
 use Rattle.table.proofs.row.Statement.{statement}
@@ -20,8 +16,7 @@ array-copy-out-result c = search needs
 
 returns : tie.Need-returns
 returns c =
-    let start = c .before .before .before in
-    call-row (c .before .calls .result) _ (start .args .place) (c .before .calls .ensures) (omega arith)
+    call-row (c .before .calls .result) _ _ (c .before .calls .ensures) (omega arith)
 
 states-requires : tie.Need-states-requires
 states-requires c κs = search needs
@@ -34,9 +29,7 @@ array-copy-out-result-2 c = search needs
 
 returns-2 : tie.Need-returns-2
 returns-2 c =
-    let start = c .before .before .before .before in
-    let place : 6 + (start .args .place - 6) ≡ start .args .place = omega arith in
-    subst (RowAt _ commands) place (state-row (c .before .states .result) _ (start .args .place - 6) (c .before .states .ensures) (omega arith))
+    state-row (c .before .states .result) _ _ (c .before .states .ensures) (omega arith) (omega arith)
 
 order-strings-requires : tie.Need-order-strings-requires
 order-strings-requires c κs = search needs
@@ -49,9 +42,7 @@ array-copy-out-result-3 c = search needs
 
 returns-3 : tie.Need-returns-3
 returns-3 c =
-    let start = c .before .before .before .before .before in
-    let place : 6 + (7 + (start .args .place - 13)) ≡ start .args .place = omega arith in
-    subst (RowAt _ commands) place (string-row (c .before .order-strings .result) _ (start .args .place - 13) (c .before .order-strings .ensures) (omega arith))
+    string-row (c .before .order-strings .result) _ _ (c .before .order-strings .ensures) (omega arith) (omega arith)
 
 galley-requires : tie.Need-galley-requires
 galley-requires c κs = search needs
@@ -64,9 +55,7 @@ array-copy-out-result-4 c = omega (arith, many)
 
 returns-4 : tie.Need-returns-4
 returns-4 c =
-    let start = c .before .before .before .before .before in
-    let place : 6 + (7 + (3 + (start .args .place - 16))) ≡ start .args .place = omega arith in
-    subst (RowAt _ commands) place (galley-row (c .before .galley .result) _ (start .args .place - 16) (c .before .galley .ensures) (omega (arith, many)))
+    galley-row (c .before .galley .result) _ _ (c .before .galley .ensures) (omega arith) (omega (arith, many))
 
 pub row-spec : {M : Type 1} → statement M
 row-spec =

@@ -7,7 +7,7 @@ use lib.ListN.{length}
 use borrow.Author.Needs.{needs}
 use Rattle.rules.specs.Make.{afterEach}
 use Rattle.laws.proofs.Each.{length-before}
-use Rattle.laws.proofs.Targets.{target-writes}
+use Rattle.laws.proofs.Targets.{target-call-is}
 use Rattle.galley_rules.proofs.Drive.{leftFrom, left-written, left-right, left-none}
 use Rattle.galley.proofs.sampling.drive.Statement.{statement}
 use Rattle.galley.proofs.sampling.drive.Tie as tie
@@ -36,35 +36,17 @@ mul-if1 c = search needs
 element-copy-out-if1 : tie.Need-element-copy-out-if1 Inv-loop μ-loop
 element-copy-out-if1 c = search needs
 
-cast-write : tie.Need-cast-write Inv-loop μ-loop
-cast-write c = search needs
+cast-write-word : tie.Need-cast-write-word Inv-loop μ-loop
+cast-write-word c = search needs
 
-mul-write : tie.Need-mul-write Inv-loop μ-loop
-mul-write c = search needs
+mul-write-word : tie.Need-mul-write-word Inv-loop μ-loop
+mul-write-word c = search needs
 
-add-write : tie.Need-add-write Inv-loop μ-loop
-add-write c = search needs
+add-write-word : tie.Need-add-write-word Inv-loop μ-loop
+add-write-word c = search needs
 
-cast-write-2 : tie.Need-cast-write-2 Inv-loop μ-loop
-cast-write-2 c = search needs
-
-write-requires : tie.Need-write-requires Inv-loop μ-loop
-write-requires c κs = tt
-
-cast-write-3 : tie.Need-cast-write-3 Inv-loop μ-loop
-cast-write-3 c = search needs
-
-mul-write-2 : tie.Need-mul-write-2 Inv-loop μ-loop
-mul-write-2 c = search needs
-
-add-write-2 : tie.Need-add-write-2 Inv-loop μ-loop
-add-write-2 c = search needs
-
-cast-write-4 : tie.Need-cast-write-4 Inv-loop μ-loop
-cast-write-4 c = search needs
-
-write-requires-2 : tie.Need-write-requires-2 Inv-loop μ-loop
-write-requires-2 c κs = tt
+write-word-requires : tie.Need-write-word-requires Inv-loop μ-loop
+write-word-requires c κs = tt
 
 loop-less : tie.Need-loop-less Inv-loop μ-loop
 loop-less c = search needs
@@ -72,13 +54,13 @@ loop-less c = search needs
 loop-again : tie.Need-loop-again Inv-loop μ-loop
 loop-again c =
     let written = c .before in
-    let loop = written .before .before .before .before in
+    let loop = written .before .before .before in
     let start = loop .before .before .before in
     let channels = start .args .state .channels in (
       omega arith,
       ap (λ s. afterEach s (leftFrom (start .args .duty) channels (loop .loop .i + 1)))
-          (rw (written .write2 .ensures, written .before .write .ensures, loop .before .duty-word .ensures) (target-writes (loop .loop .next) (loop .loop .i) (start .args .duty)))
-          ∙ left-written (start .args .duty) channels (loop .loop .next) (loop .loop .i) (omega (arith, six start)) (written .before .before .if1 .taken)
+          (rw (written .write-word .ensures, loop .before .duty-word .ensures) (target-call-is (loop .loop .next) (loop .loop .i) (start .args .duty)))
+          ∙ left-written (start .args .duty) channels (loop .loop .next) (loop .loop .i) (omega (arith, six start)) (written .before .if1 .taken)
           ∙ loop .loop .inv .1,
     )
 
@@ -111,16 +93,10 @@ drive-spec =
     add-i
     mul-if1
     element-copy-out-if1
-    cast-write
-    mul-write
-    add-write
-    cast-write-2
-    write-requires
-    cast-write-3
-    mul-write-2
-    add-write-2
-    cast-write-4
-    write-requires-2
+    cast-write-word
+    mul-write-word
+    add-write-word
+    write-word-requires
     loop-less
     loop-again
     loop-less-2

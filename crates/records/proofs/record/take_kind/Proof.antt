@@ -40,9 +40,16 @@ returns-5 : tie.Need-returns-5
 unfolding kindOf
 returns-5 c = search (needs, tests)
 
+begin-requires-6 : tie.Need-begin-requires-6
+begin-requires-6 c κs = tt
+
 returns-6 : tie.Need-returns-6
 unfolding kindOf
 returns-6 c = search (needs, tests)
+
+returns-7 : tie.Need-returns-7
+unfolding kindOf
+returns-7 c = search (needs, tests)
 
 pub take-kind-spec : {M : Type 1} → statement M
 take-kind-spec =
@@ -58,4 +65,6 @@ take-kind-spec =
     returns-4
     begin-requires-5
     returns-5
-    returns-6)
+    begin-requires-6
+    returns-6
+    returns-7)

@@ -43,6 +43,18 @@ enum-told-6 c = search needs
 take-level-requires : tie.Need-take-level-requires
 take-level-requires c κs = tt
 
+enum-told-7 : tie.Need-enum-told-7
+enum-told-7 c = search needs
+
+begin-requires-3 : tie.Need-begin-requires-3
+begin-requires-3 c κs = tt
+
+enum-known-stage-3 : tie.Need-enum-known-stage-3
+enum-known-stage-3 c = search needs
+
+take-word-requires : tie.Need-take-word-requires
+take-word-requires c κs = tt
+
 returns : tie.Need-returns
 unfolding numberOf
 returns c = rw (c .before .enum-told .given .1) (c .take-kind .ensures)
@@ -75,6 +87,14 @@ returns-8 : tie.Need-returns-8
 unfolding numberOf
 returns-8 c = rw (c .before .enum-told6 .given .1) (c .take-level .ensures)
 
+returns-9 : tie.Need-returns-9
+unfolding numberOf
+returns-9 c = rw (c .before .enum-told7 .given .1, c .begin3 .ensures)
+
+returns-10 : tie.Need-returns-10
+unfolding numberOf
+returns-10 c = rw (c .before .before .stage3 .given .1) (c .take-word .ensures)
+
 pub take-number-spec : {M : Type 1} → statement M
 take-number-spec =
     tie.close
@@ -92,6 +112,10 @@ take-number-spec =
     enum-known-stage-2
     enum-told-6
     take-level-requires
+    enum-told-7
+    begin-requires-3
+    enum-known-stage-3
+    take-word-requires
     returns
     returns-2
     returns-3
@@ -99,4 +123,6 @@ take-number-spec =
     returns-5
     returns-6
     returns-7
-    returns-8)
+    returns-8
+    returns-9
+    returns-10)

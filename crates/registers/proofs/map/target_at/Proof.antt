@@ -8,8 +8,8 @@ use Rattle.registers.proofs.map.target_at.Tie as tie
 sub-n : tie.Need-sub-n
 sub-n c = search needs
 
-cast-t9 : tie.Need-cast-t9
-cast-t9 c = search needs
+cast-t7 : tie.Need-cast-t7
+cast-t7 c = search needs
 
 returns : tie.Need-returns
 unfolding targetAt
@@ -19,8 +19,8 @@ returns-2 : tie.Need-returns-2
 unfolding targetAt
 returns-2 c = search tests
 
-cast-t14 : tie.Need-cast-t14
-cast-t14 c = search needs
+cast-t12 : tie.Need-cast-t12
+cast-t12 c = search needs
 
 returns-3 : tie.Need-returns-3
 unfolding targetAt
@@ -46,10 +46,10 @@ target-at-spec =
     tie.close
     (tie.spec
     sub-n
-    cast-t9
+    cast-t7
     returns
     returns-2
-    cast-t14
+    cast-t12
     returns-3
     returns-4
     cast-t17
