@@ -90,10 +90,14 @@ pub fn address_without_words(random: &mut Random) -> u32 {
     ])
 }
 
+/// Numbers beside those of the channels, at the end of a byte and beyond it, and the largest.
+pub const CHANNEL_EDGES: [u32; 7] = [0, 7, 8, 255, 256, 257, u32::MAX];
+
 /// A number that no channel has.
 pub fn no_channel(random: &mut Random) -> u32 {
+    let edge = random.pick(&CHANNEL_EDGES);
     let any = random.any().max(7);
-    random.pick(&[0, 7, 8, 255, 256, 257, 65_537, u32::MAX, any])
+    random.weighted(&[(7, edge), (1, 65_537), (1, any)])
 }
 
 fn carried_address(random: &mut Random) -> u32 {
@@ -185,6 +189,47 @@ pub fn pin_set_value(random: &mut Random, wrong: bool, highest: u32) -> u32 {
     } else {
         random.pick(&[0, highest, between, between])
     }
+}
+
+/// For `start`: A or B, or another number, whose low byte or half may be one of them.
+pub fn modification(random: &mut Random, wrong: bool) -> u32 {
+    let any = random.any().max(2);
+    if wrong {
+        random.pick(&[2, 3, 256, 257, 65_536, 65_537, u32::MAX, any])
+    } else {
+        random.below(2)
+    }
+}
+
+/// A channel for a pulse: mostly one whose spin-up runs, if there is one.
+pub fn channel_for_pulse(random: &mut Random, state: &State) -> u32 {
+    let any = random.between(1, CHANNELS as u32);
+    let running: Vec<u32> = (1..)
+        .zip(&state.channels)
+        .filter(|(_, channel)| channel.spin > 0)
+        .map(|(number, _)| number)
+        .collect();
+    if running.is_empty() || random.chance(1, 5) {
+        any
+    } else {
+        random.pick(&running)
+    }
+}
+
+/// Ticks between two pulses: none, one, some, so many that one tick of the spin-up is left, or so
+/// many that none is.
+pub fn span_between_pulses(random: &mut Random, channel: &Channel) -> u32 {
+    let left = u32::from(channel.spin);
+    let some = random.between(0, left);
+    random.weighted(&[
+        (5, 0),
+        (4, 1),
+        (1, 2),
+        (4, some),
+        (4, left.saturating_sub(1)),
+        (2, left),
+        (1, left + 1),
+    ])
 }
 
 /// A tachometer count, mostly at or beside the channel's target count, or at or beside 2,047.

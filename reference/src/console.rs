@@ -5,18 +5,13 @@ mod galley;
 
 pub use galley::GalleyCall;
 
-use crate::model::{self, Billionths, Channel, Speed, State, ACCEPTED, SPEED_REFUSED};
+use crate::model::{self, Billionths, Channel, PinSet, Speed, State, ACCEPTED, SPEED_REFUSED};
 use crate::orders::{self, Record, KINDS};
 use crate::text::{byte_pairs, Word};
 
 #[derive(Clone, Debug)]
 pub enum Call {
-    Start {
-        watchdog: u32,
-        spin_up: u32,
-        target: u32,
-        frequency: u8,
-    },
+    Start(PinSet),
     Write {
         address: u32,
         byte: u8,
@@ -37,6 +32,9 @@ pub enum Call {
     Word {
         address: u32,
         word: u16,
+    },
+    Pulse {
+        channel: u32,
     },
     Cabin,
     FanFail,
@@ -59,13 +57,14 @@ pub enum Call {
 impl Call {
     fn name(&self) -> &'static str {
         match self {
-            Call::Start { .. } => "start",
+            Call::Start(_) => "start",
             Call::Write { .. } => "write",
             Call::Read { .. } => "read",
             Call::Ticks { .. } => "ticks",
             Call::Tachometer { .. } => "tach",
             Call::Pin { .. } => "pin",
             Call::Word { .. } => "word",
+            Call::Pulse { .. } => "pulse",
             Call::Cabin => "cabin",
             Call::FanFail => "fanfail",
             Call::Speed { .. } => "speed",
@@ -99,18 +98,14 @@ impl Call {
     /// The numbers on its line.
     fn numbers(&self) -> Vec<u32> {
         match *self {
-            Call::Start {
-                watchdog,
-                spin_up,
-                target,
-                frequency,
-            } => vec![watchdog, spin_up, target, u32::from(frequency)],
+            Call::Start(ref values) => pin_set_numbers(values),
             Call::Write { address, byte } => vec![address, u32::from(byte)],
             Call::Read { address } => vec![address],
             Call::Ticks { count } => vec![count],
             Call::Tachometer { channel, count } => vec![channel, count],
             Call::Pin { level } => vec![u32::from(level)],
             Call::Word { address, word } => vec![address, u32::from(word)],
+            Call::Pulse { channel } => vec![channel],
             Call::Speed {
                 range_code,
                 pulses,
@@ -129,12 +124,7 @@ impl Call {
     /// answer line.
     pub fn make(&self, state: &mut State) -> (u32, String) {
         match *self {
-            Call::Start {
-                watchdog,
-                spin_up,
-                target,
-                frequency,
-            } => changed(state, model::start(watchdog, spin_up, target, frequency)),
+            Call::Start(ref values) => changed(state, model::start(values)),
             Call::Write { address, byte } => changed(state, model::write(state, address, byte)),
             Call::Read { address } => read_answer(state, address),
             Call::Ticks { count } => changed(state, model::ticks(state, count)),
@@ -143,6 +133,7 @@ impl Call {
             }
             Call::Pin { level } => changed(state, model::pin(state, level)),
             Call::Word { address, word } => changed(state, model::write_word(state, address, word)),
+            Call::Pulse { channel } => changed(state, model::pulse(state, channel)),
             Call::Cabin => cabin_answer(state),
             Call::FanFail => fan_fail_answer(state),
             Call::Speed {
@@ -221,6 +212,17 @@ fn decimal_words(numbers: &[u32]) -> String {
     words.join(" ")
 }
 
+/// `start WATCHDOG SPINUP TARGET FREQUENCY MODIFICATION`
+fn pin_set_numbers(values: &PinSet) -> Vec<u32> {
+    vec![
+        values.watchdog,
+        values.spin_up,
+        values.target,
+        u32::from(values.frequency),
+        values.modification,
+    ]
+}
+
 /// The state's numbers in the order of `dump` and `load`.
 pub fn state_numbers(state: &State) -> Vec<u32> {
     let mut numbers = vec![
@@ -238,6 +240,7 @@ pub fn state_numbers(state: &State) -> Vec<u32> {
         u32::from(state.start_spinup),
         u32::from(state.start_target),
         u32::from(state.start_frequency),
+        u32::from(state.modification),
     ];
     for channel in &state.channels {
         numbers.extend(channel_numbers(channel));
@@ -245,7 +248,7 @@ pub fn state_numbers(state: &State) -> Vec<u32> {
     numbers
 }
 
-fn channel_numbers(channel: &Channel) -> [u32; 9] {
+fn channel_numbers(channel: &Channel) -> [u32; 10] {
     [
         u32::from(channel.config),
         u32::from(channel.dynamics),
@@ -256,6 +259,7 @@ fn channel_numbers(channel: &Channel) -> [u32; 9] {
         u32::from(channel.target_count),
         u32::from(channel.window),
         u32::from(channel.queue),
+        u32::from(channel.pulses),
     ]
 }
 
@@ -270,7 +274,7 @@ mod tests {
 
     #[test]
     fn a_cabin_reading_has_nine_decimals() {
-        let (_, mut state) = model::start(0, 0, 0, 0);
+        let (_, mut state) = model::start(&PinSet::default());
         state.clock = u32::MAX;
         state.channels[0].ramp = 510;
         state.channels[1].ramp = 511;
@@ -297,26 +301,49 @@ mod tests {
 
     #[test]
     fn a_dump_gives_the_numbers_that_were_loaded() {
-        let (_, given) = model::start(2, 1, 300, 0x77);
+        let (_, mut given) = model::start(&PinSet {
+            watchdog: 2,
+            spin_up: 1,
+            target: 300,
+            frequency: 0x77,
+            modification: 1,
+        });
+        given.channels[5] = Channel {
+            ramp: 511,
+            spin: 200,
+            pulses: 1,
+            ..given.channels[5]
+        };
         let mut state = State::default();
         assert_eq!(answer(Call::Load(given), &mut state), "ok");
         assert_eq!(state, given);
         let dump = answer(Call::Dump, &mut state);
-        assert!(
-            dump.starts_with("0 1 36 119 0 63 63 69 0 0 2 1 300 119 32 76 2047 0 0 300 480 0 0 ")
-        );
-        assert_eq!(dump.split(' ').count(), 68);
+        let the_box = "0 1 36 119 0 63 63 69 0 0 2 1 300 119 1 ";
+        let resting = "32 76 2047 0 0 300 480 0 0 0 ";
+        let spinning_up = "32 76 2047 511 200 300 480 0 0 1";
+        assert_eq!(dump, [the_box, &resting.repeat(5), spinning_up].concat());
+        assert_eq!(dump.split(' ').count(), 75);
+    }
+
+    #[test]
+    fn a_load_takes_what_a_byte_can_hold() {
+        let (_, mut given) = model::start(&PinSet::default());
+        given.modification = 255;
+        given.channels[0].pulses = 255;
+        let mut state = State::default();
+        assert_eq!(answer(Call::Load(given), &mut state), "ok");
+        assert_eq!(state, given);
+        assert_eq!(answer(Call::Pulse { channel: 1 }, &mut state), "1");
+        assert_eq!(state, given);
     }
 
     #[test]
     fn answers_begin_with_the_refusal_number() {
         let mut state = State::default();
-        let refused = Call::Start {
+        let refused = Call::Start(PinSet {
             watchdog: 4,
-            spin_up: 0,
-            target: 0,
-            frequency: 0,
-        };
+            ..PinSet::default()
+        });
         assert_eq!(answer(refused, &mut state), "7");
         assert_eq!(answer(Call::Read { address: 0x0E }, &mut state), "2 0");
         assert_eq!(answer(Call::Read { address: 0x30 }, &mut state), "0 255");
@@ -334,7 +361,7 @@ mod tests {
 
     #[test]
     fn a_word_answers_with_its_refusal_alone() {
-        let (_, mut state) = model::start(0, 0, 0, 0);
+        let (_, mut state) = model::start(&PinSet::default());
         let word = |address| Call::Word {
             address,
             word: 0x6400,
@@ -351,8 +378,60 @@ mod tests {
     }
 
     #[test]
+    fn a_start_says_its_five_numbers() {
+        let start = |modification| {
+            Call::Start(PinSet {
+                watchdog: 3,
+                spin_up: 1,
+                target: 200,
+                frequency: 0x77,
+                modification,
+            })
+        };
+        let mut state = State::default();
+        assert_eq!(plain_line(&start(1).words()), "start 3 1 200 119 1");
+        assert_eq!(answer(start(1), &mut state), "0");
+        assert_eq!(state.modification, 1);
+        assert_eq!(answer(start(0), &mut state), "0");
+        assert_eq!(state.modification, 0);
+        assert_eq!(
+            plain_line(&start(u32::MAX).words()),
+            "start 3 1 200 119 4294967295"
+        );
+        for modification in [2, 256, u32::MAX] {
+            assert_eq!(answer(start(modification), &mut state), "7");
+            assert_eq!(state, State::default());
+        }
+    }
+
+    #[test]
+    fn a_pulse_answers_with_its_refusal_alone() {
+        let (_, mut state) = model::start(&PinSet {
+            spin_up: 1,
+            target: 200,
+            modification: 1,
+            ..PinSet::default()
+        });
+        let pulse = |channel| Call::Pulse { channel };
+        assert_eq!(answer(Call::Ticks { count: 1 }, &mut state), "0");
+        assert_eq!(plain_line(&pulse(6).words()), "pulse 6");
+        for (channel, line) in [(0, "5"), (1, "0"), (6, "0"), (7, "5"), (u32::MAX, "5")] {
+            assert_eq!(answer(pulse(channel), &mut state), line);
+        }
+        assert_eq!(
+            state.channels.map(|channel| channel.pulses),
+            [1, 0, 0, 0, 0, 1]
+        );
+        let record = Call::Encode(vec![6, u32::MAX]);
+        assert_eq!(plain_line(&record.words()), "encode pulse 4294967295");
+    }
+
+    #[test]
     fn a_run_answers_with_its_counts_and_the_whole_buffer() {
-        let (_, mut state) = model::start(0, 0, 0, 0x77);
+        let (_, mut state) = model::start(&PinSet {
+            frequency: 0x77,
+            ..PinSet::default()
+        });
         let run = |string: &[u8], allowance, room| Call::Run {
             string: string.to_vec(),
             allowance,
@@ -379,6 +458,10 @@ mod tests {
             (vec![5, 0x4A, 65_535], "054affff03"),
             (vec![5, 0x40, 65_536], "0540808004"),
             (vec![5, u32::MAX, 0], "05ffffffff0f00"),
+            (vec![6, 1], "0601"),
+            (vec![6, 0], "0600"),
+            (vec![6, 128], "068001"),
+            (vec![6, u32::MAX], "06ffffffff0f"),
         ];
         for (record, bytes) in encodings {
             assert_eq!(answer(Call::Encode(record), &mut state), bytes);
@@ -399,6 +482,7 @@ mod tests {
             word: 65_535,
         };
         assert_eq!(word.record(), Some(vec![5, 0x5A, 65_535]));
+        assert_eq!(Call::Pulse { channel: 4 }.record(), Some(vec![6, 4]));
         assert_eq!(Call::Dump.record(), None);
     }
 }

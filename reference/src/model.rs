@@ -19,6 +19,11 @@ pub const SPEED_REFUSED: u32 = 6;
 pub const PIN_SET_VALUE: u32 = 7;
 pub const BYTE_OR_WORD: u32 = 8;
 
+// K7: "Boxes of modification A keep 01's whole time; boxes of modification B end early." "A is
+// number 0, B is 1."
+pub const MODIFICATION_A: u8 = 0;
+pub const MODIFICATION_B: u8 = 1;
+
 // "00h: bit 7 standby, 6 reset (reads 0), 5 bus timeout, 3 oscillator, 2:1 watchdog code,
 // 0 watchdog status. Bits 4 and 0 of a written byte are ignored."
 pub const STANDBY: u8 = 0x80;
@@ -56,6 +61,8 @@ pub struct Channel {
     pub target_count: u16,
     pub window: u8,
     pub queue: u8,
+    /// Pulses within the running spin-up: "as stored it is 0 or 1".
+    pub pulses: u8,
 }
 
 /// The fields are as wide as the console's state, so that a state which is not sound can be held
@@ -77,6 +84,8 @@ pub struct State {
     pub start_spinup: u8,
     pub start_target: u16,
     pub start_frequency: u8,
+    /// A pin-set value, as the four before it.
+    pub modification: u8,
     pub channels: [Channel; CHANNELS],
 }
 
@@ -132,7 +141,8 @@ pub fn watchdog_limit(code: u8) -> Option<u16> {
     [None, Some(2560), Some(5120), Some(15360)][usize::from(code)]
 }
 
-/// "Spin-up codes 0 to 3: none, 256, 512, 1,024 ticks. Spin-up lasts its whole time."
+/// "Spin-up codes 0 to 3: none, 256, 512, 1,024 ticks. Spin-up lasts its whole time." K7 ends it
+/// early in a box of modification B.
 pub fn spin_up_ticks(code: u8) -> u16 {
     [0, 256, 512, 1024][usize::from(code)]
 }
@@ -154,7 +164,7 @@ pub fn period(channel: &Channel) -> u32 {
 
 /// "A state is sound when each field is in range, unkept bits are 0, refusal 4's bits are clear, a
 /// channel in monitor or a box in standby has ramp value and spin-up time 0, a running spin-up has
-/// ramp value 511" and the watchdog's counts agree. Nothing more is asked.
+/// ramp value 511" and the watchdog's counts and those of pulses agree. Nothing more is asked.
 pub fn sound(state: &State) -> bool {
     let stood_down = |channel: &Channel| state.standby() || channel.monitor_only();
     box_in_range(state)
@@ -163,6 +173,7 @@ pub fn sound(state: &State) -> bool {
             channel_in_range(channel)
                 && (!stood_down(channel) || channel.ramp == 0 && channel.spin == 0)
                 && (channel.spin == 0 || channel.ramp == FULL_DUTY)
+                && pulses_sound(state, channel)
         })
 }
 
@@ -175,6 +186,7 @@ fn box_in_range(state: &State) -> bool {
         && state.start_watchdog <= 3
         && state.start_spinup <= 3
         && state.start_target <= FULL_DUTY
+        && [MODIFICATION_A, MODIFICATION_B].contains(&state.modification)
 }
 
 fn channel_in_range(channel: &Channel) -> bool {
@@ -195,6 +207,15 @@ fn watchdog_sound(state: &State) -> bool {
         None => state.idle == 0 && !state.expired,
         Some(limit) if state.expired => state.idle == limit,
         Some(limit) => state.idle < limit,
+    }
+}
+
+/// K7: "as stored it is 0 or 1, and 0 under A and whenever no spin-up time remains."
+fn pulses_sound(state: &State, channel: &Channel) -> bool {
+    match channel.pulses {
+        0 => true,
+        1 => state.modification == MODIFICATION_B && channel.spin > 0,
+        _ => false,
     }
 }
 
@@ -295,12 +316,18 @@ fn channel_tick(state: &mut State, index: usize) {
     let clock = state.clock;
     let channel = &mut state.channels[index];
     if channel.spin > 0 {
-        // "Else if spin-up runs, its remaining ticks fall by one."
+        // "Else if spin-up runs, its remaining ticks fall by one." With the last of them goes the
+        // count of pulses.
         channel.spin -= 1;
+        if channel.spin == 0 {
+            channel.pulses = 0;
+        }
     } else if channel.spin_up_due() {
-        // "spin-up starts: remaining ticks as coded, ramp value 511."
+        // "spin-up starts: remaining ticks as coded, ramp value 511." K7: "The count of pulses
+        // begins anew with each spin-up".
         channel.spin = spin_up_ticks(channel.spin_up_code());
         channel.ramp = FULL_DUTY;
+        channel.pulses = 0;
     } else if channel.rate_code() == 0 {
         // "Else with rate code 0 the ramp value becomes the target."
         channel.ramp = channel.target;
@@ -352,38 +379,64 @@ pub fn ticks(state: &State, count: u32) -> (u32, State) {
 }
 
 /// "Start takes the pin-set values: watchdog code, spin-up code (each 0 to 3), power-on target (0
-/// to 511), the 01h byte." A refused one gives "a state with every number 0 and every flag clear,
-/// pin low".
-pub fn start(watchdog: u32, spin_up: u32, target: u32, frequency: u8) -> (u32, State) {
-    if watchdog > 3 || spin_up > 3 || target > u32::from(FULL_DUTY) {
-        return (PIN_SET_VALUE, State::default());
-    }
-    let fresh = as_at_start(watchdog as u8, spin_up as u8, target as u16, frequency);
-    (ACCEPTED, fresh)
+/// to 511), the 01h byte." K7: "Start takes the modification."
+#[derive(Clone, Copy, Debug, Default)]
+pub struct PinSet {
+    pub watchdog: u32,
+    pub spin_up: u32,
+    pub target: u32,
+    pub frequency: u8,
+    pub modification: u32,
 }
 
-/// The power-on values of the MAX31790's register table. "Ramp, spin-up, idle, clock and queue
-/// counts begin at 0; the pin is high."
-fn as_at_start(watchdog: u8, spin_up: u8, target: u16, frequency: u8) -> State {
+/// "Ramp, spin-up, idle, clock and queue counts begin at 0; the pin is high." Refused, it gives "a
+/// state with every number 0 and every flag clear, pin low".
+pub fn start(values: &PinSet) -> (u32, State) {
+    // K7: "7 for another modification."
+    let modifications = [MODIFICATION_A, MODIFICATION_B].map(u32::from);
+    if values.watchdog > 3
+        || values.spin_up > 3
+        || values.target > u32::from(FULL_DUTY)
+        || !modifications.contains(&values.modification)
+    {
+        return (PIN_SET_VALUE, State::default());
+    }
+    let kept = State {
+        pin: true,
+        start_watchdog: values.watchdog as u8,
+        start_spinup: values.spin_up as u8,
+        start_target: values.target as u16,
+        start_frequency: values.frequency,
+        modification: values.modification as u8,
+        ..State::default()
+    };
+    (ACCEPTED, as_at_start(&kept))
+}
+
+/// The power-on values of the MAX31790's register table, for the pin-set values that the given state
+/// keeps. Clock and pin level are its own too.
+fn as_at_start(given: &State) -> State {
     let channel = Channel {
-        config: spin_up << 5,
+        config: given.start_spinup << 5,
         dynamics: 0b0100_1100,
         count: 0xFFE0 >> 5,
-        target,
+        target: given.start_target,
         target_count: 0x3C00 >> 5,
         ..Channel::default()
     };
     State {
-        pin: true,
-        control: 0b0010_0000 | watchdog << 1,
-        frequency,
+        clock: given.clock,
+        pin: given.pin,
+        control: 0b0010_0000 | given.start_watchdog << 1,
+        frequency: given.start_frequency,
         mask2: 0b0011_1111,
         mask1: 0b0011_1111,
         options: 0b0100_0101,
-        start_watchdog: watchdog,
-        start_spinup: spin_up,
-        start_target: target,
-        start_frequency: frequency,
+        start_watchdog: given.start_watchdog,
+        start_spinup: given.start_spinup,
+        start_target: given.start_target,
+        start_frequency: given.start_frequency,
+        modification: given.modification,
         channels: [channel; CHANNELS],
         ..State::default()
     }
@@ -493,17 +546,7 @@ fn store_control(state: &mut State, byte: u8) {
     if byte & RESET != 0 {
         // "To 00h with bit 6: everything but clock and pin level as at start, the other bits
         // ignored."
-        let fresh = as_at_start(
-            state.start_watchdog,
-            state.start_spinup,
-            state.start_target,
-            state.start_frequency,
-        );
-        *state = State {
-            clock: state.clock,
-            pin: state.pin,
-            ..fresh
-        };
+        *state = as_at_start(state);
         return;
     }
     state.control = byte & CONTROL_WRITTEN | state.control & STATUS;
@@ -524,7 +567,13 @@ fn store_configuration(channel: &mut Channel, byte: u8) {
 
 fn stop_ramp(channel: &mut Channel) {
     channel.ramp = 0;
+    end_spin_up(channel);
+}
+
+/// The count of pulses is 0 "whenever no spin-up time remains."
+fn end_spin_up(channel: &mut Channel) {
     channel.spin = 0;
+    channel.pulses = 0;
 }
 
 /// Stores a word at the even address of a target. "Both left-justified": what stands below the nine
@@ -667,6 +716,29 @@ fn judge(state: &mut State, index: usize) {
     } else {
         channel.queue = 0;
     }
+}
+
+/// K7: "A new call reports one pulse on a channel: under B, the second pulse within a running
+/// spin-up sets its remaining ticks to 0; under A it does nothing." A spin-up that an override
+/// freezes is running too: it has ticks left. It asks for no tachometer enabled, and it is no bus
+/// access.
+pub fn pulse(state: &State, channel: u32) -> (u32, State) {
+    if !sound(state) {
+        return (NOT_SOUND, *state);
+    }
+    let Some(index) = channel_index(channel) else {
+        return (NO_SUCH_CHANNEL, *state);
+    };
+    let mut next = *state;
+    let channel = &mut next.channels[index];
+    if state.modification == MODIFICATION_B && channel.spin > 0 {
+        if channel.pulses == 0 {
+            channel.pulses = 1;
+        } else {
+            end_spin_up(channel);
+        }
+    }
+    (ACCEPTED, next)
 }
 
 /// "Pin stores the level and nothing else."

@@ -14,8 +14,9 @@ pub const SHORT_BUFFER: u32 = 15;
 
 /// The console's words for the kinds. "Kinds: 0 write (address, value), 1 read (address), 2 ticks
 /// (n), 3 tachometer (channel, count), 4 pin (0 low, 1 high)." K6: "The order string gets kind 5
-/// (even address, word)". Every number from the length of this list on is an unknown kind.
-pub const KINDS: [&str; 6] = ["write", "read", "ticks", "tach", "pin", "word"];
+/// (even address, word)". K7: "The order string gets kind 6 (channel)." Every number from the length
+/// of this list on is an unknown kind.
+pub const KINDS: [&str; 7] = ["write", "read", "ticks", "tach", "pin", "word", "pulse"];
 
 /// A kind, and the numbers that follow it.
 pub type Record = Vec<u32>;
@@ -102,6 +103,10 @@ impl Reader<'_> {
                 let value = self.number()?;
                 let word = u16::try_from(value).map_err(|_| KIND_OR_VALUE)?;
                 Ok(Call::Word { address, word })
+            }
+            6 => {
+                let channel = self.number()?;
+                Ok(Call::Pulse { channel })
             }
             _ => Err(KIND_OR_VALUE),
         }

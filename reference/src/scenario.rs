@@ -2,6 +2,7 @@
 //! row of short drills, each about one part of the paper, all on the one state in hand.
 
 mod galley;
+mod pulses;
 
 use std::mem;
 
@@ -9,7 +10,8 @@ use crate::choices;
 use crate::console::{Call, GalleyCall};
 use crate::galley::{Galley, UPPER_LIMITS};
 use crate::model::{
-    queue_length, Channel, State, ACCEPTED, CHANNELS, FULL_DUTY, MONITOR_ONLY, TACHOMETER_ENABLED,
+    queue_length, Channel, PinSet, State, ACCEPTED, CHANNELS, FULL_DUTY, MONITOR_ONLY,
+    TACHOMETER_ENABLED,
 };
 use crate::orders::{self, Record};
 use crate::random::Random;
@@ -24,10 +26,15 @@ pub struct Scenario {
     random: Random,
     state: State,
     galley: Galley,
+    /// The drills that are still to come before all of them are dealt anew.
+    dealt: Vec<Drill>,
     /// The next of the flaws, which are taken in turn.
     next_flaw: usize,
     /// The next of the limits between the galley's rows, which are taken in turn.
     next_limit: usize,
+    /// The next of the ways to freeze a spin-up, and to cut it off, which are taken in turn.
+    next_freeze: usize,
+    next_cut_off: usize,
     /// While a string is packed, its records: calls become records then, and no lines.
     packed: Option<Vec<Record>>,
     pub input: String,
@@ -43,8 +50,11 @@ pub fn scenario(seed: u64, calls: usize) -> Scenario {
         random: Random::new(seed),
         state: State::default(),
         galley: Galley::default(),
+        dealt: Vec::new(),
         next_flaw: (seed % FLAWS.len() as u64) as usize,
         next_limit: (seed % UPPER_LIMITS.len() as u64) as usize,
+        next_freeze: 0,
+        next_cut_off: 0,
         packed: None,
         input: format!("# Scenario of seed {seed}.\n"),
         answers: String::new(),
@@ -66,22 +76,43 @@ pub fn scenario(seed: u64, calls: usize) -> Scenario {
     made
 }
 
+/// All drills in a random order, each as often as its share says: so a short scenario has every one
+/// of them too.
+fn dealt_anew(random: &mut Random) -> Vec<Drill> {
+    let shares: [(usize, Drill); 12] = [
+        (16, Scenario::traffic_drill),
+        (8, Scenario::word_drill),
+        (4, Scenario::pulse_drill),
+        (1, Scenario::frozen_boxes_drill),
+        (1, Scenario::no_channel_drill),
+        (3, Scenario::start_drill),
+        (4, Scenario::load_drill),
+        (10, Scenario::flaw_drill),
+        (3, Scenario::speed_drill),
+        (3, Scenario::encode_drill),
+        (47, Scenario::string_drill),
+        (23, Scenario::galley_drill),
+    ];
+    let mut drills = Vec::new();
+    for (times, drill) in shares {
+        drills.extend(vec![drill; times]);
+    }
+    for place in (1..drills.len()).rev() {
+        let other = random.below(place as u32 + 1) as usize;
+        drills.swap(place, other);
+    }
+    drills
+}
+
 // The drills
 impl Scenario {
     fn drill(&mut self) {
-        let drills: [(u32, Drill); 9] = [
-            (112, Scenario::traffic_drill),
-            (48, Scenario::word_drill),
-            (19, Scenario::start_drill),
-            (30, Scenario::load_drill),
-            (54, Scenario::flaw_drill),
-            (14, Scenario::speed_drill),
-            (16, Scenario::encode_drill),
-            (264, Scenario::string_drill),
-            (120, Scenario::galley_drill),
-        ];
-        let drill = self.random.weighted(&drills);
-        drill(self);
+        if self.dealt.is_empty() {
+            self.dealt = dealt_anew(&mut self.random);
+        }
+        if let Some(drill) = self.dealt.pop() {
+            drill(self);
+        }
         if self.random.chance(1, 2) {
             self.make(Call::Dump);
         }
@@ -89,15 +120,16 @@ impl Scenario {
 
     /// One of the drills whose calls, but for queries and dumps, have a kind: they can be packed.
     fn traffic_drill(&mut self) {
-        let drills: [(u32, Drill); 8] = [
+        let drills: [(u32, Drill); 9] = [
             (18, Scenario::register_drill),
-            (4, Scenario::sweep_drill),
+            (5, Scenario::sweep_drill),
             (16, Scenario::ramp_drill),
             (14, Scenario::spin_up_drill),
+            (10, Scenario::turning_drill),
             (12, Scenario::small_duty_drill),
             (14, Scenario::watchdog_drill),
-            (25, Scenario::tachometer_drill),
-            (12, Scenario::override_drill),
+            (32, Scenario::tachometer_drill),
+            (16, Scenario::override_drill),
         ];
         let drill = self.random.weighted(&drills);
         drill(self);
@@ -149,7 +181,8 @@ impl Scenario {
         }
     }
 
-    /// From ramp value 0 into a spin-up, which may be frozen, cut off or given another code.
+    /// From ramp value 0 into a spin-up, which may be frozen, cut off, given another code or ended
+    /// by pulses.
     fn spin_up_drill(&mut self) {
         let index = self.some_channel();
         self.clear_overrides(index);
@@ -163,8 +196,8 @@ impl Scenario {
         }
         self.write(0x02 + index, others | code << 5);
         self.write_target(index);
-        for _ in 0..self.random.between(3, 7) {
-            match self.random.below(13) {
+        for _ in 0..self.random.between(3, 8) {
+            match self.random.below(16) {
                 0..=5 => {
                     let channel = self.channel(index);
                     let count = choices::span_of_spin_up(&mut self.random, &channel);
@@ -175,6 +208,7 @@ impl Scenario {
                 9 => self.flip_pin(),
                 10 => self.write_byte_for(0x00),
                 11 => self.write_target(index),
+                12..=14 => self.pulse_and_look(index),
                 _ => self.some_sample(),
             }
         }
@@ -246,7 +280,7 @@ impl Scenario {
         self.write(0x00, others | code << 1);
         for _ in 0..self.random.between(2, 6) {
             let index = self.some_channel();
-            match self.random.below(17) {
+            match self.random.below(18) {
                 0..=4 => {
                     let count = choices::span_to_expiry(&mut self.random, &self.state);
                     self.pass(count);
@@ -261,6 +295,7 @@ impl Scenario {
                 10 => self.flip_pin(),
                 11 => self.result(index),
                 12..=13 => self.write_word_somewhere(),
+                14 => self.pulse_somewhere(),
                 _ => self.some_sample(),
             }
         }
@@ -271,7 +306,7 @@ impl Scenario {
         let index = self.some_channel();
         self.ready_for_results(index);
         for _ in 0..self.random.between(4, 14) {
-            match self.random.below(23) {
+            match self.random.below(24) {
                 0..=6 => self.result(index),
                 7..=9 => self.bad_results(index),
                 10..=11 => self.make(Call::FanFail),
@@ -286,6 +321,7 @@ impl Scenario {
                 17..=18 => self.write_word_for(0x40 + 2 * index),
                 19 => self.write_word_for(0x50 + 2 * index),
                 20 => self.pass_ticks(),
+                21 => self.pulse_somewhere(),
                 _ => self.some_sample(),
             }
         }
@@ -338,6 +374,9 @@ impl Scenario {
             if self.random.chance(1, 2) {
                 self.some_sample();
             }
+            if self.random.chance(1, 2) {
+                self.pulse(index);
+            }
             self.read_duty(index);
         }
         if self.random.chance(3, 4) {
@@ -347,19 +386,17 @@ impl Scenario {
     }
 
     fn start_drill(&mut self) {
-        let refused = self.random.chance(1, 3);
-        // A bit for each of the three values that can be out of range.
-        let wrong = if refused {
-            self.random.between(1, 7)
-        } else {
-            0
-        };
-        let call = Call::Start {
+        let several = self.random.between(1, 15);
+        let refused = self.random.pick(&[several, several, 1, 2, 4, 8, 8, 8]);
+        // A bit for each of the four values that can be out of range.
+        let wrong = self.random.weighted(&[(1, 0), (1, refused)]);
+        let call = Call::Start(PinSet {
             watchdog: choices::pin_set_value(&mut self.random, wrong & 1 != 0, 3),
             spin_up: choices::pin_set_value(&mut self.random, wrong & 2 != 0, 3),
             target: choices::pin_set_value(&mut self.random, wrong & 4 != 0, FULL_DUTY.into()),
             frequency: self.random.byte(),
-        };
+            modification: choices::modification(&mut self.random, wrong & 8 != 0),
+        });
         self.make(call);
         self.try_the_state();
     }
@@ -381,9 +418,9 @@ impl Scenario {
         self.next_flaw = (self.next_flaw + 1) % FLAWS.len();
         let (mended, flawed) = flawed_state(&mut self.random, flaw);
         self.make(Call::Load(flawed));
-        let first = self.random.below(15);
-        for turn in first..first + self.random.between(3, 10) {
-            match turn % 15 {
+        let first = self.random.below(17);
+        for turn in first..first + self.random.between(3, 11) {
+            match turn % 17 {
                 0 => self.write_something(),
                 1 => self.read_something(),
                 2 => {
@@ -399,6 +436,7 @@ impl Scenario {
                 10 => self.some_sample(),
                 11 => self.galley_call(),
                 12..=13 => self.write_word_somewhere(),
+                14..=15 => self.pulse_somewhere(),
                 _ => self.galley_flaw_drill(),
             }
         }
@@ -482,12 +520,13 @@ impl Scenario {
         let in_hand = mem::replace(&mut self.state, state);
         self.packed = Some(Vec::new());
         while self.packed_records() < number {
-            match self.random.below(10) {
-                0 => self.read_what_the_buffer_holds(),
-                1 => self.number_of_some_length(),
-                2..=3 => self.write_something(),
-                4 => self.read_something(),
-                5..=7 if number > 6 => self.traffic_drill(),
+            match self.random.below(20) {
+                0..=1 => self.read_what_the_buffer_holds(),
+                2..=3 => self.number_of_some_length(),
+                4..=7 => self.write_something(),
+                8..=9 => self.read_something(),
+                10..=15 if number > 6 => self.traffic_drill(),
+                16 if number > 6 => self.turning_drill(),
                 _ => self.any_call(),
             }
         }
@@ -609,20 +648,20 @@ impl Scenario {
 
     /// One that does not feed the watchdog.
     fn refused_access(&mut self) {
-        match self.random.below(9) {
+        match self.random.below(10) {
             0 => self.write(0x11, 0x00),
-            1 => {
+            1..=2 => {
                 let index = self.some_channel();
                 let byte = choices::refused_configuration(&mut self.random);
                 self.write(0x02 + index, byte);
             }
-            2 => self.write(0x66, 0x00),
-            3..=4 => {
+            3 => self.write(0x66, 0x00),
+            4..=5 => {
                 let target = choices::target_address(&mut self.random);
                 let half = self.random.below(2);
                 self.write_byte_for(target + half);
             }
-            5..=7 => {
+            6..=8 => {
                 let address = choices::address_without_words(&mut self.random);
                 self.write_word_for(address);
             }
@@ -658,13 +697,14 @@ impl Scenario {
     }
 
     fn any_call(&mut self) {
-        match self.random.below(10) {
+        match self.random.below(12) {
             0 => self.write_something(),
             1 => self.read_something(),
             2 => self.result_somewhere(),
             3 => self.query(),
             4 => self.flip_pin(),
-            5..=7 => self.pass_ticks(),
+            5..=8 => self.pass_ticks(),
+            9 => self.pulse_somewhere(),
             _ => self.galley_call(),
         }
     }
@@ -763,131 +803,4 @@ impl Scenario {
 }
 
 #[cfg(test)]
-mod tests {
-    use super::*;
-    use crate::galley::ROWS;
-
-    /// The lines of a scenario that answer.
-    fn answered(input: &str) -> usize {
-        let words = input.lines().map(str::trim);
-        words
-            .filter(|text| !text.is_empty() && !text.starts_with('#'))
-            .count()
-    }
-
-    #[test]
-    fn a_seed_always_gives_the_same_scenario() {
-        let (first, second) = (scenario(12, 500), scenario(12, 500));
-        assert_eq!(first.input, second.input);
-        assert_eq!(first.answers, second.answers);
-        assert_ne!(first.input, scenario(13, 500).input);
-    }
-
-    #[test]
-    fn every_call_has_its_answer() {
-        for (seed, calls) in [(1, 1), (2, 10), (3, 3000), (4, 3000)] {
-            let made = scenario(seed, calls);
-            assert!(made.seen.calls >= calls);
-            assert_eq!(answered(&made.input), made.seen.calls);
-            assert_eq!(made.answers.lines().count(), made.seen.calls);
-        }
-    }
-
-    #[test]
-    fn a_scenario_of_some_length_meets_every_part_of_the_paper() {
-        let seen = scenario(1, 30_000).seen;
-        assert!(seen.answers.iter().all(|&times| times >= 30));
-        assert!(seen.results.iter().all(|&times| times >= 100));
-        assert!(seen.lines.iter().all(|&times| times >= 200));
-        assert!(seen.near_full.iter().flatten().all(|&times| times >= 20));
-        assert!(seen.faults_raised >= 150 && seen.faults_cleared >= 100);
-        assert!(seen.faults_at_full_target >= 30);
-        assert!(seen.fan_fail_asserted >= 80);
-        assert!(seen.expiries >= 200 && seen.expiries_ended >= 200);
-        assert!(seen.spin_ups_begun >= 400);
-        assert!(seen.clock_wraps >= 100 && seen.resets >= 40);
-        assert!(seen.speeds_stopped >= 30 && seen.speeds_too_fast >= 30);
-        assert!(seen.speed_edges.iter().all(|&times| times >= 30));
-        assert!(seen.sound_loads >= 200 && seen.flawed_loads >= 4 * FLAWS.len());
-    }
-
-    #[test]
-    fn a_scenario_of_some_length_runs_strings_of_every_kind() {
-        let seen = scenario(2, 30_000).seen;
-        let runs = &seen.runs;
-        assert!(6 * runs.calls() >= seen.calls);
-        for refusal in [0, 1, 2, 3, 4, 5, 8, 10, 11, 12, 13, 15] {
-            assert!(runs.answers[refusal] >= 80, "{refusal}");
-        }
-        for refusal in [2, 3, 8, 10, 13] {
-            assert!(runs.stopped_at_words[&refusal] >= 15, "{refusal}");
-        }
-        assert!(runs.stopped_at_words[&11] >= 5 && runs.stopped_at_words[&12] >= 5);
-        assert!(runs.whole_strings >= 1000 && runs.allowances_used_up >= 500);
-        assert!(runs.empty_strings >= 50 && runs.hidden_answers >= 200);
-        assert!(runs.records >= 20_000 && runs.most_records >= 300);
-        assert!(seen.encodings >= 100);
-    }
-
-    #[test]
-    fn a_scenario_of_some_length_writes_words_of_every_kind() {
-        let seen = scenario(4, 30_000).seen;
-        let words = &seen.words;
-        assert!(15 * words.lines >= seen.calls);
-        assert!(words.duties >= 1500 && words.counts >= 500);
-        assert_eq!(words.targets.len(), 2 * CHANNELS);
-        for refusal in [1, 2, 3, 8] {
-            assert!(words.refused[&refusal] >= 40, "{refusal}");
-        }
-        assert!(words.bytes_refused >= 80 && words.bits_dropped >= 2500);
-        assert!(words.edges.iter().all(|&times| times >= 50));
-        assert!(words.faults_cleared >= 200 && words.queues_cleared >= 400);
-        assert!(words.faults_kept >= 80);
-        assert!(words.expiries_ended >= 80 && words.expiries_kept >= 20);
-        assert!(words.idle_counts_kept >= 20);
-        assert!(words.falls >= 200 && words.falls_to_one >= 100);
-    }
-
-    #[test]
-    fn a_scenario_of_some_length_meets_every_part_of_the_galley() {
-        let seen = scenario(3, 30_000).seen;
-        let galley = &seen.galley;
-        assert!(6 * galley.calls >= seen.calls);
-        for (name, refusals) in [
-            ("gfresh", &[0, 22][..]),
-            ("gsample", &[0, 1, 20, 22]),
-            ("gspan", &[0, 1, 20, 21]),
-            ("gread", &[0, 1]),
-        ] {
-            for &refusal in refusals {
-                assert!(galley.answers[&(name, refusal)] >= 15, "{name} {refusal}");
-            }
-        }
-        assert!(galley.not_sound.iter().all(|&times| times >= 20));
-        assert!(galley.several_reasons >= 30 && galley.readings_below_zero >= 20);
-        assert!(galley.sound_loads >= 50 && galley.flawed_loads >= 50);
-        let (rows, pins, writes) = (&galley.rows, &galley.pins, &galley.writes);
-        assert!(rows.rose >= 200 && rows.fell >= 200 && rows.fell_and_held >= 100);
-        assert!(rows.held.iter().all(|&times| times >= 100));
-        assert!(rows.above_the_range >= 20 && rows.limits() == UPPER_LIMITS.len());
-        assert_eq!(rows.rows.len(), ROWS);
-        assert!(pins.alerts.iter().all(|&times| times >= 300));
-        assert!(pins.shutdowns.iter().all(|&times| times >= 300));
-        assert!(pins.beside_high.iter().all(|&times| times >= 15));
-        assert!(pins.beside_over.iter().all(|&times| times >= 15));
-        assert!(writes.differing.iter().all(|&times| times >= 12));
-        assert!(writes.tables.iter().all(|&times| times >= 300));
-        assert!(writes.full_bytes >= 50 && writes.bytes_below_full >= 50);
-        assert!(writes.expiries_ended >= 20 && writes.expiries_kept >= 8);
-        assert!(writes.idle_counts_kept >= 20);
-        assert!(writes.faults_cleared >= 80 && writes.faults_kept >= 15);
-    }
-
-    #[test]
-    fn five_thousand_calls_stay_small() {
-        for seed in 1..=3 {
-            let made = scenario(seed, 5000);
-            assert!(made.input.len() + made.answers.len() < 700_000);
-        }
-    }
-}
+mod tests;

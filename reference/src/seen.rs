@@ -1,6 +1,7 @@
 //! What a scenario has met: counted so that one can see that it covers the paper.
 
 mod galley;
+mod pulses;
 mod words;
 
 use std::collections::BTreeMap;
@@ -15,6 +16,7 @@ use crate::model::{
 };
 use crate::orders::{self, Reader, Run, KINDS, SHORT_BUFFER};
 use galley::SeenGalley;
+pub use pulses::SeenPulses;
 use words::SeenWords;
 
 /// The lowest of the counts beside 2,047.
@@ -35,6 +37,7 @@ pub struct Seen {
     pub galley: SeenGalley,
     // From here on, what single calls did and what the records did that runs took.
     pub words: SeenWords,
+    pub pulses: SeenPulses,
     /// Tachometer results that were not stored, not judged, judged good, judged bad.
     pub results: [usize; 4],
     /// Judged results by target count and then by stored count, both from `NEAR_FULL` to 2,047.
@@ -70,8 +73,9 @@ pub struct SeenRuns {
     pub answer_bytes: usize,
     /// Runs whose last answer is the byte that the buffer holds anyway.
     pub hidden_answers: usize,
-    /// Runs that stopped before the record of a word, by refusal number.
+    /// Runs that stopped before the record of a word, and of a pulse, by refusal number.
     pub stopped_at_words: BTreeMap<u32, usize>,
+    pub stopped_at_pulses: BTreeMap<u32, usize>,
 }
 
 impl Seen {
@@ -79,8 +83,7 @@ impl Seen {
         self.calls += 1;
         match *call {
             Call::Dump => self.dumps += 1,
-            Call::Load(state) if sound(&state) => self.sound_loads += 1,
-            Call::Load(_) => self.flawed_loads += 1,
+            Call::Load(ref state) => self.note_load(state),
             Call::Encode(_) => self.encodings += 1,
             Call::Run {
                 ref string,
@@ -103,9 +106,17 @@ impl Seen {
             _ => {
                 self.answers[refusal as usize] += 1;
                 self.words.lines += usize::from(matches!(call, Call::Word { .. }));
+                self.pulses.lines += usize::from(matches!(call, Call::Pulse { .. }));
                 self.note_effects(call, before, refusal, after);
             }
         }
+    }
+
+    fn note_load(&mut self, state: &State) {
+        let sound = sound(state);
+        self.sound_loads += usize::from(sound);
+        self.flawed_loads += usize::from(!sound);
+        self.pulses.note_load(state, sound);
     }
 
     /// The two states are those before the call.
@@ -155,6 +166,7 @@ impl Seen {
                 self.resets += usize::from(address == 0 && byte & RESET != 0);
                 self.note_access(before);
                 self.faults_cleared += gained(after.faults, before.faults);
+                self.pulses.note_write(address, byte, before, after);
             }
             Call::Write { .. } => self.words.note_refused_byte(refusal),
             Call::Word { address, word } if refusal == ACCEPTED => {
@@ -167,6 +179,12 @@ impl Seen {
             Call::Tachometer { channel, .. } if refusal == ACCEPTED => {
                 self.note_result(before, after, channel as usize - 1);
             }
+            Call::Pulse { channel } if refusal == ACCEPTED => {
+                self.pulses
+                    .note_accepted(channel as usize - 1, before, after);
+            }
+            Call::Pulse { channel } => self.pulses.note_refused(channel, refusal),
+            Call::Start(ref values) => self.pulses.note_start(values, refusal),
             _ => {}
         }
     }
@@ -191,6 +209,7 @@ impl Seen {
         self.expiries += usize::from(!before.expired && after.expired);
         self.clock_wraps += usize::from(before.clock.checked_add(count).is_none());
         self.words.note_ticks(before, after);
+        self.pulses.note_ticks(before, after);
         for index in 0..CHANNELS {
             // No other step leads away from ramp value 0 while spin-up is due, and within one
             // call it is due at the beginning or never.
@@ -222,16 +241,21 @@ impl SeenRuns {
         self.answer_bytes += answers.len();
         self.hidden_answers += usize::from(answers.last() == Some(&0xA5));
         let looked_at = ![ACCEPTED, NOT_SOUND, SHORT_BUFFER].contains(&run.refusal);
-        if looked_at && begins_with_word(rest) {
-            *self.stopped_at_words.entry(run.refusal).or_default() += 1;
+        let stopped_at = match first_kind(rest) {
+            Some("word") => &mut self.stopped_at_words,
+            Some("pulse") => &mut self.stopped_at_pulses,
+            _ => return,
+        };
+        if looked_at {
+            *stopped_at.entry(run.refusal).or_default() += 1;
         }
     }
 }
 
 /// Every kind is one byte in its shortest form.
-fn begins_with_word(string: &[u8]) -> bool {
-    let kind = string.first().copied().map(usize::from);
-    kind.and_then(|kind| KINDS.get(kind)) == Some(&"word")
+fn first_kind(string: &[u8]) -> Option<&'static str> {
+    let kind = usize::from(*string.first()?);
+    KINDS.get(kind).copied()
 }
 
 /// How many bits are set in `after` and not in `before`.
@@ -287,6 +311,9 @@ impl fmt::Display for SeenRuns {
         for (number, times) in &self.stopped_at_words {
             writeln!(out, "  runs stopped before a word with {number}: {times}")?;
         }
+        for (number, times) in &self.stopped_at_pulses {
+            writeln!(out, "  runs stopped before a pulse with {number}: {times}")?;
+        }
         Ok(())
     }
 }
@@ -302,7 +329,8 @@ impl fmt::Display for Seen {
             writeln!(out, "  speeds at count {edge}: {times}")?;
         }
         writeln!(out, "  encodings: {}", self.encodings)?;
-        write!(out, "{}{}{}", self.runs, self.galley, self.words)?;
+        write!(out, "{}{}", self.runs, self.galley)?;
+        write!(out, "{}{}", self.words, self.pulses)?;
         self.show_results(out)?;
         writeln!(out, "  faults cleared: {}", self.faults_cleared)?;
         writeln!(out, "  FAN_FAIL asserted: {}", self.fan_fail_asserted)?;

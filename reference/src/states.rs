@@ -5,7 +5,8 @@ pub mod galley;
 
 use crate::model::{
     watchdog_limit, Channel, State, CHANNELS, FULL_COUNT, FULL_DUTY, LONGEST_QUEUE,
-    LONGEST_SPIN_UP, MONITOR_ONLY, RESET, STANDBY, STATUS, TACHOMETER_ENABLED,
+    LONGEST_SPIN_UP, MODIFICATION_A, MODIFICATION_B, MONITOR_ONLY, RESET, STANDBY, STATUS,
+    TACHOMETER_ENABLED,
 };
 use crate::random::Random;
 
@@ -22,6 +23,7 @@ pub fn sound_state(random: &mut Random) -> State {
         start_spinup: random.below(4) as u8,
         start_target: random_duty(random),
         start_frequency: random.byte(),
+        modification: random.pick(&[MODIFICATION_A, MODIFICATION_B]),
         ..State::default()
     };
     if random.chance(1, 2) {
@@ -37,6 +39,7 @@ pub fn sound_state(random: &mut Random) -> State {
     if state.standby() {
         state.channels.iter_mut().for_each(stand_down);
     }
+    set_pulses(random, &mut state);
     state
 }
 
@@ -129,7 +132,12 @@ fn random_channel(random: &mut Random) -> Channel {
 
 fn stand_down(channel: &mut Channel) {
     channel.ramp = 0;
+    no_spin_up(channel);
+}
+
+fn no_spin_up(channel: &mut Channel) {
     channel.spin = 0;
+    channel.pulses = 0;
 }
 
 /// A running spin-up, under whatever spin-up code the channel has by now.
@@ -142,6 +150,82 @@ fn spin_up(random: &mut Random, channel: &mut Channel) {
     };
 }
 
+/// Counts of pulses where they may stand: within running spin-ups of a box of modification B.
+fn set_pulses(random: &mut Random, state: &mut State) {
+    let counted = state.modification == MODIFICATION_B;
+    for channel in &mut state.channels {
+        let may_stand = counted && channel.spin > 0;
+        channel.pulses = u8::from(may_stand && random.chance(1, 2));
+    }
+}
+
+/// Sound, with a spin-up on most of the channels and under no override.
+pub fn spinning_state(random: &mut Random) -> State {
+    let mut state = sound_state(random);
+    state.modification = random.pick(&[MODIFICATION_A, MODIFICATION_B, MODIFICATION_B]);
+    state.pin = true;
+    state.control &= !STANDBY;
+    state.options = state.options & !0x0C | 0x04;
+    set_code(&mut state, 0, 0, false);
+    for channel in &mut state.channels {
+        if random.chance(5, 6) {
+            channel.config &= !MONITOR_ONLY;
+            spin_up(random, channel);
+        }
+    }
+    set_pulses(random, &mut state);
+    state
+}
+
+/// The overrides that leave a spin-up the ticks that it has.
+#[derive(Clone, Copy, Debug)]
+pub enum Freeze {
+    FullSpeed,
+    Expiry,
+    FailedFanOption(u8),
+}
+
+pub const FREEZES: [Freeze; 5] = [
+    Freeze::FailedFanOption(0),
+    Freeze::Expiry,
+    Freeze::FailedFanOption(2),
+    Freeze::FullSpeed,
+    Freeze::FailedFanOption(3),
+];
+
+/// A box with spin-ups that are frozen.
+pub fn frozen_state(random: &mut Random, freeze: Freeze) -> State {
+    let mut state = spinning_state(random);
+    match freeze {
+        Freeze::FullSpeed => state.pin = false,
+        Freeze::Expiry => {
+            let code = random.between(1, 3) as u8;
+            set_code(&mut state, code, limit_of(code), true);
+        }
+        Freeze::FailedFanOption(option) => {
+            let some = random.between(1, 63) as u8;
+            state.faults = random.pick(&[some, 0x3F, 0x3F]);
+            state.options = state.options & !0x0C | option << 2;
+        }
+    }
+    state
+}
+
+/// Sound, with the watchdog about to expire and spin-ups about to end: before the tick of the
+/// expiry, in it (it is frozen, so that one tick is left) or after it.
+pub fn state_before_expiry(random: &mut Random) -> State {
+    let mut state = spinning_state(random);
+    let code = random.between(1, 3) as u8;
+    let ticks = random.between(1, 4);
+    set_code(&mut state, code, limit_of(code) - ticks as u16, false);
+    for channel in &mut state.channels {
+        if channel.spin > 0 {
+            channel.spin = random.between(1, ticks + 1) as u16;
+        }
+    }
+    state
+}
+
 /// Each way in which one field makes a state not sound.
 #[derive(Clone, Copy, Debug, PartialEq, Eq)]
 pub enum Flaw {
@@ -152,6 +236,12 @@ pub enum Flaw {
     StartWatchdog,
     StartSpinUp,
     StartTarget,
+    ModificationRange,
+    AOverPulse,
+    PulsesRange,
+    PulseUnderA,
+    PulseWithoutSpinUp,
+    EndedOverPulse,
     ConfigBit(u8),
     DynamicsBit,
     CountRange,
@@ -179,7 +269,7 @@ pub enum Flaw {
     ShorterLimit,
 }
 
-pub const FLAWS: [Flaw; 37] = [
+pub const FLAWS: [Flaw; 43] = [
     Flaw::ControlBit(RESET),
     Flaw::ControlBit(0x10),
     Flaw::Mask2Bit(0x40),
@@ -190,6 +280,12 @@ pub const FLAWS: [Flaw; 37] = [
     Flaw::StartWatchdog,
     Flaw::StartSpinUp,
     Flaw::StartTarget,
+    Flaw::ModificationRange,
+    Flaw::AOverPulse,
+    Flaw::PulsesRange,
+    Flaw::PulseUnderA,
+    Flaw::PulseWithoutSpinUp,
+    Flaw::EndedOverPulse,
     Flaw::ConfigBit(0x80),
     Flaw::ConfigBit(0x04),
     Flaw::ConfigBit(0x01),
@@ -224,6 +320,7 @@ pub fn flawed_state(random: &mut Random, flaw: Flaw) -> (State, State) {
     let index = random.below(CHANNELS as u32) as usize;
     let mut state = sound_state(random);
     prepare_box(random, &mut state, flaw);
+    prepare_modification(&mut state, flaw);
     prepare_channel(random, &mut state, index, flaw);
     let before = state;
     spoil_box(random, &mut state, flaw);
@@ -263,7 +360,24 @@ fn limit_of(code: u8) -> u16 {
     watchdog_limit(code).unwrap_or(0)
 }
 
-/// Gives the channel the mode and the ramp value that the flaw goes against.
+/// Gives the box the modification that the flaw goes against.
+fn prepare_modification(state: &mut State, flaw: Flaw) {
+    match flaw {
+        Flaw::PulseUnderA => {
+            state.modification = MODIFICATION_A;
+            state
+                .channels
+                .iter_mut()
+                .for_each(|channel| channel.pulses = 0);
+        }
+        Flaw::AOverPulse | Flaw::PulsesRange | Flaw::PulseWithoutSpinUp | Flaw::EndedOverPulse => {
+            state.modification = MODIFICATION_B
+        }
+        _ => {}
+    }
+}
+
+/// Gives the channel the mode, the ramp value and the spin-up that the flaw goes against.
 fn prepare_channel(random: &mut Random, state: &mut State, index: usize, flaw: Flaw) {
     let channel = &mut state.channels[index];
     match flaw {
@@ -274,19 +388,27 @@ fn prepare_channel(random: &mut Random, state: &mut State, index: usize, flaw: F
         Flaw::MonitorOverSpinUp
         | Flaw::StandbyOverSpinUp
         | Flaw::SpinUpBelowFull
-        | Flaw::SpinRange => {
+        | Flaw::SpinRange
+        | Flaw::PulsesRange
+        | Flaw::PulseUnderA => {
             channel.config &= !MONITOR_ONLY;
             spin_up(random, channel);
+        }
+        Flaw::AOverPulse | Flaw::EndedOverPulse => {
+            channel.config &= !MONITOR_ONLY;
+            spin_up(random, channel);
+            channel.pulses = 1;
         }
         Flaw::SpinUpFromBelow => {
             channel.config &= !MONITOR_ONLY;
             channel.ramp = random.below(u32::from(FULL_DUTY)) as u16;
-            channel.spin = 0;
+            no_spin_up(channel);
         }
         Flaw::RampRange => {
             channel.config &= !MONITOR_ONLY;
-            channel.spin = 0;
+            no_spin_up(channel);
         }
+        Flaw::PulseWithoutSpinUp => no_spin_up(channel),
         _ => {}
     }
 }
@@ -301,6 +423,8 @@ fn spoil_box(random: &mut Random, state: &mut State, flaw: Flaw) {
         Flaw::StartSpinUp => state.start_spinup = byte_above(random, 3),
         Flaw::StartTarget => state.start_target = above(random, FULL_DUTY),
         Flaw::StandbyOverSpinUp => state.control |= STANDBY,
+        Flaw::ModificationRange => state.modification = byte_above(random, MODIFICATION_B),
+        Flaw::AOverPulse => state.modification = MODIFICATION_A,
         _ => {}
     }
 }
@@ -336,6 +460,9 @@ fn spoil_channel(random: &mut Random, channel: &mut Channel, flaw: Flaw) {
         Flaw::MonitorOverSpinUp => channel.config |= MONITOR_ONLY,
         Flaw::SpinUpBelowFull => channel.ramp = random.pick(&[510, 509, 256, 1, 0]),
         Flaw::SpinUpFromBelow => channel.spin = random.pick(&[1, 2, 256, 512, 1024]),
+        Flaw::PulsesRange => channel.pulses = byte_above(random, 1),
+        Flaw::PulseUnderA | Flaw::PulseWithoutSpinUp => channel.pulses = 1,
+        Flaw::EndedOverPulse => channel.spin = 0,
         _ => {}
     }
 }
@@ -388,6 +515,7 @@ pub fn unusual_sound_state(random: &mut Random) -> State {
                 channel.config |= random.pick(&[0x00, 0x20]);
                 spin_up(random, channel);
             }
+            set_pulses(random, &mut state);
         }
     }
     state
@@ -405,7 +533,21 @@ mod tests {
         for _ in 0..20_000 {
             assert!(sound(&sound_state(&mut random)));
             assert!(sound(&unusual_sound_state(&mut random)));
+            assert!(sound(&spinning_state(&mut random)));
+            assert!(sound(&state_before_expiry(&mut random)));
+            let freeze = random.pick(&FREEZES);
+            assert!(sound(&frozen_state(&mut random, freeze)));
         }
+    }
+
+    #[test]
+    fn half_of_the_random_states_are_of_modification_b() {
+        let mut random = Random::new(3);
+        let states: Vec<State> = (0..10_000).map(|_| sound_state(&mut random)).collect();
+        let of_b = |state: &&State| state.modification == MODIFICATION_B;
+        let counted = |state: &&State| state.channels.iter().any(|channel| channel.pulses > 0);
+        assert!((4800..5200).contains(&states.iter().filter(of_b).count()));
+        assert!(states.iter().filter(counted).count() >= 1000);
     }
 
     #[test]

@@ -18,7 +18,7 @@ pub fn number_of_records(random: &mut Random) -> usize {
     let many = random.between(25, 80);
     let most = random.between(100, 750);
     let records: u32 =
-        random.weighted(&[(4, 0), (10, 1), (48, few), (30, some), (7, many), (1, most)]);
+        random.weighted(&[(4, 0), (10, 1), (42, few), (35, some), (8, many), (1, most)]);
     records as usize
 }
 
@@ -65,11 +65,11 @@ fn damage(random: &mut Random, string: &mut Vec<u8>) {
 
 /// A record that stops a run, or nearly does.
 fn odd_record(random: &mut Random) -> Vec<u8> {
-    match random.below(32) {
-        0..=15 => record_bytes(&refused_record(random)),
-        16..=19 => record_bytes(&record_out_of_range(random)),
-        20..=22 => record_bytes(&record_of_unknown_kind(random)),
-        23..=30 => record_with_odd_number(random),
+    match random.below(35) {
+        0..=17 => record_bytes(&refused_record(random)),
+        18..=21 => record_bytes(&record_out_of_range(random)),
+        22..=24 => record_bytes(&record_of_unknown_kind(random)),
+        25..=33 => record_with_odd_number(random),
         _ => record_bytes(&any_record(random)),
     }
 }
@@ -85,7 +85,7 @@ fn beginning_of_odd_record(random: &mut Random) -> Vec<u8> {
 /// Of a call that is refused with 2, 3, 4, 5 or 8.
 fn refused_record(random: &mut Random) -> Record {
     let byte = random.byte().into();
-    match random.below(16) {
+    match random.below(18) {
         0 => vec![0, choices::no_register(random), byte],
         1 => vec![1, choices::no_register(random)],
         2..=3 => vec![0, choices::read_only_register(random), byte],
@@ -102,7 +102,8 @@ fn refused_record(random: &mut Random) -> Record {
             let address = choices::address_without_words(random);
             vec![5, address, choices::word_for(random, address).into()]
         }
-        _ => vec![3, choices::no_channel(random), random.below(2100)],
+        13..=15 => vec![3, choices::no_channel(random), random.below(2100)],
+        _ => vec![6, choices::no_channel(random)],
     }
 }
 
@@ -166,7 +167,8 @@ fn record_of_unknown_kind(random: &mut Random) -> Record {
 pub fn any_record(random: &mut Random) -> Record {
     let number = choices::number_of_some_length(random);
     let channel = random.between(1, 6);
-    match random.below(KINDS.len() as u32) {
+    // A word twice as often as another kind: it has two numbers, and a limit to the second.
+    match random.pick(&[0, 1, 2, 3, 4, 5, 5, 6]) {
         0 => {
             let register = choices::address(random);
             let byte = choices::byte_for(random, register).into();
@@ -186,6 +188,7 @@ pub fn any_record(random: &mut Random) -> Record {
             let address = random.pick(&[register, register, register, number]);
             vec![5, address, random.pick(&[word, word, number])]
         }
+        6 => vec![6, random.pick(&[channel, channel, number])],
         _ => unreachable!("no kind without a record"),
     }
 }

@@ -168,7 +168,7 @@ pub fn skipped_line(random: &mut Random) -> String {
         "# a comment",
         "#write 0 64",
         "  # load 1 2 3",
-        "\t#\tstart 0 0 0 0",
+        "\t#\tstart 0 0 0 0 0",
         "## \"quoted\" 0xZZ -1",
     ]);
     format!("{text}{}", line_end(random))
@@ -264,9 +264,9 @@ mod tests {
     fn the_longest_load_fits_into_a_line() {
         let mut random = Random::new(6);
         let mut said = vec![Word::Name("load")];
-        said.extend([u32::MAX; 68].map(Word::Number));
+        said.extend([u32::MAX; 75].map(Word::Number));
         for _ in 0..5_000 {
-            assert_eq!(words(&call_line(&mut random, &said)).len(), 69);
+            assert_eq!(words(&call_line(&mut random, &said)).len(), 76);
         }
     }
 

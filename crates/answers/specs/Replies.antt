@@ -10,7 +10,7 @@ use Rattle.rules.specs.declared.Speed.{Speed}
 use Rattle.rules.specs.declared.Speed.the-variants.{Rpm, Stopped, TooFast, Refused}
 use Rattle.rules.specs.declared.Reading.{Reading}
 use Rattle.rules.specs.declared.Call.{Call}
-use Rattle.rules.specs.declared.Call.the-variants.{Write, Read, Ticks, Tachometer, Pin, WriteWord}
+use Rattle.rules.specs.declared.Call.the-variants.{Write, Read, Ticks, Tachometer, Pin, WriteWord, Pulse}
 use Rattle.galley_rules.specs.declared.Galley.{Galley}
 use Rattle.rules.specs.Basics.{flag}
 use Rattle.rules.specs.Start.{startOf}
@@ -56,11 +56,14 @@ ticksCall v = Ticks (number v 0)
 abbrev pub tachCall : List ℕ → Call
 tachCall v = Tachometer (number v 0) (number v 1)
 
+abbrev pub pulseCall : List ℕ → Call
+pulseCall v = Pulse (number v 0)
+
 abbrev pub pinCall : List ℕ → Call
 pinCall v = Pin (eqb (number v 0) 1)
 
 abbrev pub startBy : List ℕ → Answer
-startBy v = startOf (number v 0) (number v 1) (number v 2) (byteOf (number v 3))
+startBy v = startOf (number v 0) (number v 1) (number v 2) (byteOf (number v 3)) (number v 4)
 
 abbrev pub speedBy : List ℕ → Speed
 speedBy v = speedOf (number v 0) (number v 1) (number v 2)

@@ -4,7 +4,7 @@ ghost use Prim.Native.Nat.{_≤_};
 ghost use mathlib.Core.List.{_∷_};
 ghost use lib.ListN.{length};
 ghost use Rattle.text.specs.Put.{Put};
-ghost use Rattle.answers.specs.Replies.{withState, withGalley, Replies, RepliesNumbers, Makes, MakesRead, Starts, TellsFanFail, TellsCabin, TellsSpeed, Dumps, Loads, writeCall, wordCall, readCall, ticksCall, tachCall, pinCall, startBy, speedBy, readingText, readingMost, cabinText, cabinMost};
+ghost use Rattle.answers.specs.Replies.{withState, withGalley, Replies, RepliesNumbers, Makes, MakesRead, Starts, TellsFanFail, TellsCabin, TellsSpeed, Dumps, Loads, writeCall, wordCall, readCall, ticksCall, tachCall, pulseCall, pinCall, startBy, speedBy, readingText, readingMost, cabinText, cabinMost};
 use crate::line::put_line;
 use crate::line::put_part;
 use crate::line::put_parts;
@@ -131,6 +131,12 @@ pub fn tach_reply(hand: Hand, values: &[u32], out: &mut [u8], at: usize) -> Repl
     )
 }
 
+pub fn pulse_reply(hand: Hand, values: &[u32], out: &mut [u8], at: usize) -> Reply
+    ensures { λ r. ⌜ Makes hand at (now (out .entry)) (now (out .exit)) r (pulseCall (now (values .entry))) ⌝ }
+{
+    call_reply(hand, Call::Pulse(value(values, 0)), out, at)
+}
+
 pub fn pin_reply(hand: Hand, values: &[u32], out: &mut [u8], at: usize) -> Reply
     ensures { λ r. ⌜ Makes hand at (now (out .entry)) (now (out .exit)) r (pinCall (now (values .entry))) ⌝ }
 {
@@ -166,6 +172,7 @@ fn start_by(values: &[u32]) -> Answer
         value(values, 1),
         value(values, 2),
         byte(values, 3),
+        value(values, 4),
     )
 }
 

@@ -15,7 +15,7 @@ struct Given {
 
 // A state of a kind: settled, ramping, spin-up due, watchdog counting, faults judged, or overridden (and anything else).
 fn state_of(kind: u8) -> State {
-    let ramping = start::start(0, 0, 511, 0x11);
+    let ramping = start::start(0, 0, 511, 0x11, 0);
     if kind == b'r' {
         return ramping.state;
     }
@@ -24,11 +24,11 @@ fn state_of(kind: u8) -> State {
         return settled.state;
     }
     if kind == b'd' {
-        let due = start::start(0, 1, 300, 0x11);
+        let due = start::start(0, 1, 300, 0x11, 0);
         return due.state;
     }
     if kind == b'w' {
-        let counting = start::start(1, 0, 511, 0x11);
+        let counting = start::start(1, 0, 511, 0x11, 0);
         return counting.state;
     }
     if kind == b'f' {

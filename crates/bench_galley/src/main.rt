@@ -77,7 +77,7 @@ fn main() {
     io::read_full(STDIN_FILENO, &mut text);
     let table = [text[1]; 48];
     let galley = galley::fresh(640, 720, false, false).galley;
-    let state = start::start(1, 0, TARGET, 0x11).state;
+    let state = start::start(1, 0, TARGET, 0x11, 0).state;
     // One call first: with two places that call it, `call` stays a function that can be counted in.
     let first = call(galley, state, text[0], &table);
     let sum = std::num::wrapping_add_u64(

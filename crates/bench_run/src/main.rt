@@ -21,7 +21,7 @@ const LISTED: [Call; 16] = [
     Call::Read(0x3A),
     Call::Ticks(1),
     Call::Tachometer(6, 2047),
-    Call::Read(0x18),
+    Call::Pulse(1),
     Call::Write(0x13, 0x3E),
     Call::Ticks(65536),
     Call::Pin(false),
@@ -105,7 +105,7 @@ fn main() {
     io::read_full(STDIN_FILENO, &mut text);
     let mut string = [0u8; 192];
     put_64(&mut string);
-    let begun = start::start(0, 0, 511, 0x11);
+    let begun = start::start(0, 0, 511, 0x11, 0);
     // Once first: with two places that call it, `call` stays a function that can be counted in.
     let first = call(begun.state, text[0], &string);
     let sum = std::num::wrapping_add_u64(

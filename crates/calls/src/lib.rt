@@ -36,5 +36,6 @@ pub fn make(state: State, call: Call) -> ReadAnswer
             address,
             word,
         )),
+        Call::Pulse(channel) => without_byte(pulse::take_pulse(state, channel)),
     }
 }

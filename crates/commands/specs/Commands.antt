@@ -23,7 +23,7 @@ use Rattle.table.specs.declared.Asks.the-variants.{For, Record}
 use Rattle.table.specs.declared.Parameter.{Parameter}
 use Rattle.table.specs.declared.Parameter.the-variants as parameter
 use Rattle.table.specs.declared.Kind.{Kind}
-use Rattle.table.specs.declared.Kind.the-variants.{Write, Read, Ticks, Tachometer, Pin, WriteWord}
+use Rattle.table.specs.declared.Kind.the-variants.{Write, Read, Ticks, Tachometer, Pin, WriteWord, Pulse}
 use Rattle.table.specs.declared.Recorded.{Recorded}
 use Rattle.table.specs.declared.Recorded.the-variants.{As, Not}
 use Rattle.commands.specs.declared.Reason.{Reason}
@@ -180,3 +180,4 @@ orderBy Ticks n second = order.Ticks n
 orderBy Tachometer channel count = order.Tachometer channel count
 orderBy Pin level second = order.Pin level
 orderBy WriteWord address word = order.WriteWord address word
+orderBy Pulse channel second = order.Pulse channel

@@ -337,5 +337,6 @@ pub fn order_by(kind: Kind, first: u32, second: u32) -> Order
         Kind::Tachometer => Order::Tachometer(first, second),
         Kind::Pin => Order::Pin(first),
         Kind::WriteWord => Order::WriteWord(first, second),
+        Kind::Pulse => Order::Pulse(first),
     }
 }

@@ -13,7 +13,7 @@ use Rattle.rules.specs.State.{blank, channel, startValues, timer, withSettings,
 use Rattle.rules.specs.Registers.{rateCode, watchdogCode}
 use Rattle.rules.specs.Time.{watchdogLimit}
 use Rattle.rules.specs.Duty.{conditionsOf, overrideBy, overrideOf, dutyUnder, outputDuty}
-use Rattle.rules.specs.Valid.{validChannel, validRegisters, validStart, validTimer, validOf}
+use Rattle.rules.specs.Valid.{validChannel, validPulses, validRegisters, validStart, validTimer, validOf}
 use Rattle.rules.specs.Start.{startChannel, asAtStart}
 use Rattle.rules.specs.Calls.{accepted, stateNotValid, answer, readAnswer}
 use Rattle.rules.specs.Make.{made, madeEach, afterEach}
@@ -92,7 +92,7 @@ module _ (ch : Channel) (n : ℕ) where
       omega (arith, approach-down (ch .ramp) (wanted ch) n (ltb-false (ch .ramp) (wanted ch) e)))
 
 -- with no override in force and no spin-up the duty is the ramp value
-free-duty : (k : Conditions) (ch : Channel) → overridden k ch ≡ false → ch .spin ≡ 0 → outputDuty k ch ≡ ch .ramp
+pub free-duty : (k : Conditions) (ch : Channel) → overridden k ch ≡ false → ch .spin ≡ 0 → outputDuty k ch ≡ ch .ramp
 unfolding outputDuty
 free-duty k ch free z = by-override (overrideOf k ch) free
   where
@@ -108,13 +108,13 @@ module _ (s : State) (i : ℕ) (exists : i < length (s .channels)) (free : overr
       map-at (λ x. channelTicks (overridden (conditionsOf s) x) k (s .timer .clock) x) (s .channels) i blank blank exists
       ∙ ap (λ held. channelTicks held k (s .timer .clock) (channel s i)) free
 
-  pub duty-ahead : (ramp spin : ℕ) → channelTicks false k (s .timer .clock) (channel s i) ≡ withMotion (channel s i) ramp spin → spin ≡ 0 →
-      dutyAt (ahead s k) i ≡ ramp
+  pub duty-ahead : (ramp spin pulses : ℕ) → channelTicks false k (s .timer .clock) (channel s i) ≡ withMotion (channel s i) ramp spin pulses →
+      spin ≡ 0 → dutyAt (ahead s k) i ≡ ramp
   unfolding overrideBy
-  duty-ahead ramp spin e z =
+  duty-ahead ramp spin pulses e z =
       ap (λ cond. outputDuty cond (channel (ahead s k) i)) (ahead-conditions s k)
       ∙ ap (outputDuty (conditionsOf s)) (channel-ahead ∙ e)
-      ∙ free-duty (conditionsOf s) (withMotion (channel s i) ramp spin) free z
+      ∙ free-duty (conditionsOf s) (withMotion (channel s i) ramp spin pulses) free z
 
 module _ (s : State) (i : ℕ) (c : Settles s i) where
   ch : Channel
@@ -146,7 +146,7 @@ module _ (s : State) (i : ℕ) (c : Settles s i) where
     duty-then : dutyAt (iterate k tick s) i ≡ rampedBy (s .timer .clock) k (channel s i)
     duty-then =
         ap (λ x. dutyAt x i) short
-        ∙ duty-ahead s i exists (c .not-overridden) k _ (channel s i .spin)
+        ∙ duty-ahead s i exists (c .not-overridden) k _ (channel s i .spin) (channel s i .pulses)
         (ticks-ramp (s .timer .clock) (channel s i) (c .not-running) (c .not-due) k (c .has-rate)) (c .not-running)
 
   at-target : (elapsed : List ℕ) → total elapsed ≡ settlingTicks (s .timer .clock) (channel s i) → dutyAt (endOf s elapsed) i ≡ wanted (channel s i)
@@ -181,8 +181,8 @@ as-counted =
 -- six channels at a ramp value, with a target and a dynamics byte, at clock 6, under a watchdog code and an idle count
 abbrev settlingFrom : ℕ → ℕ → ℕ → ℕ → ℕ → State
 settlingFrom ramp target dynamics code idle =
-    let v = startValues code 0 target 0 in
-    let ch = withMotion (withSettings (startChannel v) 0 dynamics 0 target 480) ramp 0 in
+    let v = startValues code 0 target 0 0 in
+    let ch = withMotion (withSettings (startChannel v) 0 dynamics 0 target 480) ramp 0 0 in
     withChannels (withTimer (asAtStart v 6 true) (timer 6 idle false false)) (replicate 6 ch)
 
 -- ramp value 100, target 110, rate code 3, watchdog off: after 38 ticks
@@ -190,7 +190,7 @@ abbrev pub risingState : State
 risingState = settlingFrom 100 110 0x4C 0 0
 
 pub rising-example : Settles risingState 0 × (settlingTicks 6 (channel risingState 0) ≡ 38)
-unfolding validOf validRegisters validStart validTimer validChannel watchdogLimit conditionsOf overrideBy outputDuty spinUpDue wanted
+unfolding validOf validRegisters validStart validTimer validChannel validPulses watchdogLimit conditionsOf overrideBy outputDuty spinUpDue wanted
 rising-example = (
   record {
     is-valid = refl;
@@ -210,7 +210,7 @@ abbrev pub fallingState : State
 fallingState = settlingFrom 110 100 0x4E 1 2485
 
 pub falling-example : Settles fallingState 0 × (settlingTicks 6 (channel fallingState 0) ≡ 74)
-unfolding validOf validRegisters validStart validTimer validChannel watchdogLimit conditionsOf overrideBy outputDuty spinUpDue wanted
+unfolding validOf validRegisters validStart validTimer validChannel validPulses watchdogLimit conditionsOf overrideBy outputDuty spinUpDue wanted
 falling-example = (
   record {
     is-valid = refl;

@@ -15,7 +15,7 @@ use Rattle.rules.specs.Map.{targetAt, placeAt, targetAddress}
 use Rattle.rules.specs.Time.{watchdogLimit, spinTicks}
 use Rattle.rules.specs.Duty.{conditionsOf, overrideBy}
 use Rattle.rules.specs.Calls.{accepted, answer, accessed}
-use Rattle.rules.specs.Valid.{validChannel, validRegisters, validStart, validTimer, validOf}
+use Rattle.rules.specs.Valid.{validChannel, validPulses, validRegisters, validStart, validTimer, validOf}
 use Rattle.rules.specs.Start.{startChannel, asAtStart}
 use Rattle.rules.specs.WriteWord.{targetWritten, ownWordWritten, wordWritten, wordRefusal, writeWordOf}
 use Rattle.rules.specs.Read.{targetWord, placeByte, readAt, readOf}
@@ -44,10 +44,11 @@ module _ (ch : Channel) (word : ℕ) where
   word-is Target = refl
   word-is TargetCount = refl
 
-  motion-stays : (r : WordRegister) → (targetWritten ch word r .ramp ≡ ch .ramp) × (targetWritten ch word r .spin ≡ ch .spin)
+  motion-stays : (r : WordRegister) →
+      (targetWritten ch word r .ramp ≡ ch .ramp) × (targetWritten ch word r .spin ≡ ch .spin) × (targetWritten ch word r .pulses ≡ ch .pulses)
   unfolding targetWritten
-  motion-stays Target = (refl, refl)
-  motion-stays TargetCount = (refl, refl)
+  motion-stays Target = (refl, refl, refl)
+  motion-stays TargetCount = (refl, refl, refl)
 
   clears : (r : WordRegister) →
       (targetWritten ch word r .fault ≡ (if isDuty r then false else ch .fault)) × (targetWritten ch word r .queue ≡ (if isDuty r then 0 else ch .queue))
@@ -100,6 +101,7 @@ module _ (s : State) (r : WordRegister) (i word : ℕ) (o : OneOfSix s i) where
         queue = ap (λ ch. ch .queue) channel-is ∙ clears (channel s i) word r .1;
         ramp = ramp;
         spin = ap (λ ch. ch .spin) channel-is ∙ motion-stays (channel s i) word r .1;
+        pulses = ap (λ ch. ch .pulses) channel-is ∙ motion-stays (channel s i) word r .2;
         not-due = λ turns. turning-not-due _ (λ z. turns (sym ramp ∙ z));
         others = λ k other. ap (λ x. channel x k) after-is ∙ getD-set-other (s .channels) i k _ blank other;
       }
@@ -109,8 +111,8 @@ module _ (s : State) (r : WordRegister) (i word : ℕ) (o : OneOfSix s i) where
 -- a fan that turns at 200, rate code 0 and spin-up code 1, with the watchdog counting and a fault in the queue
 abbrev turning : State
 turning =
-    let v = startValues 1 1 200 0 in
-    let ch = withMotion (withSettings (startChannel v) 0x20 0x40 0 200 480) 200 0 in
+    let v = startValues 1 1 200 0 0 in
+    let ch = withMotion (withSettings (startChannel v) 0x20 0x40 0 200 480) 200 0 0 in
     withTimer (withChannels (asAtStart v 0 true) (replicate 6 (withResults ch (results 600 1 false)))) (timer 1000 7 false false)
 
 -- channel 1 after calls: its target, its ramp value, and its remaining spin-up ticks
@@ -123,5 +125,5 @@ pub in-one-go-example : OneOfSix turning 0
     × (seenAfter (WriteWord 0x40 0x0000 ∷ Ticks 1 ∷ WriteWord 0x40 0x0080 ∷ Ticks 1 ∷ []) ≡ 1 ∷ 511 ∷ 256 ∷ [])
     × (seenAfter (WriteWord 0x40 0x0080 ∷ []) ≡ 1 ∷ 200 ∷ 0 ∷ [])
     × (seenAfter (WriteWord 0x40 0x0080 ∷ Ticks 1 ∷ []) ≡ 1 ∷ 1 ∷ 0 ∷ [])
-unfolding afterEach made writeWordOf wordRefusal wordWritten targetWritten placeAt targetAt validOf validRegisters validStart validTimer validChannel watchdogLimit ticksPassed iterate tick timerTick channelsTick channelTick conditionsOf overrideBy spinUpDue wanted spinTicks
+unfolding afterEach made writeWordOf wordRefusal wordWritten targetWritten placeAt targetAt validOf validRegisters validStart validTimer validChannel validPulses watchdogLimit ticksPassed iterate tick timerTick channelsTick channelTick conditionsOf overrideBy spinUpDue wanted spinTicks
 in-one-go-example = (record { is-valid = refl; six = refl; below = omega arith }, refl, refl, refl)

@@ -77,7 +77,7 @@ pub record Ready (s : State) (i most queue : ℕ) : Type 0 where
   pub no-fault : channel s i .fault ≡ false
   pub queue-is : channel s i .queue ≡ queue
 
-some-set : {A : Type 0} (test : A → Bool) (xs : List A) (i : ℕ) (y d : A) → test y ≡ test (getD xs i d) → some test (set xs i y) ≡ some test xs
+pub some-set : {A : Type 0} (test : A → Bool) (xs : List A) (i : ℕ) (y d : A) → test y ≡ test (getD xs i d) → some test (set xs i y) ≡ some test xs
 some-set test [] i y d e = refl
 some-set test (x ∷ xs) zero y d e = ap (λ b. b || some test xs) e
 some-set test (x ∷ xs) (suc i) y d e = ap (λ b. test x || b) (some-set test xs i y d e)

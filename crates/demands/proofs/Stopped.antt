@@ -13,7 +13,7 @@ use Rattle.rules.specs.Basics.{every, some}
 use Rattle.rules.specs.State.{channel, registers, withSettings, withRegisters, withChannels}
 use Rattle.rules.specs.Registers.{queueCode, masked}
 use Rattle.rules.specs.Duty.{conditionsOf, overrideBy, outputDuty}
-use Rattle.rules.specs.Valid.{validChannel, validRegisters, validStart, validTimer, validOf}
+use Rattle.rules.specs.Valid.{validChannel, validPulses, validRegisters, validStart, validTimer, validOf}
 use Rattle.rules.specs.Tachometer.{queueLength, storedCount, judged, isBad, resultOf}
 use Rattle.rules.specs.FanFail.{failed, fanFailOf}
 use Rattle.rules.specs.Make.{made, afterEach}
@@ -87,7 +87,7 @@ seized =
     (replicate 6 (withSettings ch (ch .config) (ch .dynamics) (ch .window) (ch .target) 2047))
 
 seized-begins : Ready seized 0 4 0 × (masked (seized .registers .mask1) 0 ≡ false)
-unfolding validOf validRegisters validStart validTimer validChannel conditionsOf overrideBy outputDuty judged queueLength
+unfolding validOf validRegisters validStart validTimer validChannel validPulses conditionsOf overrideBy outputDuty judged queueLength
 seized-begins = (
   record {
     one-of-six = record { is-valid = refl; six = refl; below = omega arith };

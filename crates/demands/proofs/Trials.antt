@@ -15,7 +15,7 @@ use Rattle.rules.specs.Words.{countWord, outputWord, wordByte}
 use Rattle.rules.specs.Map.{placeAt, statusAt}
 use Rattle.rules.specs.Time.{watchdogLimit, spinTicks, ratePeriod}
 use Rattle.rules.specs.Duty.{conditionsOf, overrideBy, outputDuty}
-use Rattle.rules.specs.Valid.{validChannel, validRegisters, validStart, validTimer, validOf}
+use Rattle.rules.specs.Valid.{validChannel, validPulses, validRegisters, validStart, validTimer, validOf}
 use Rattle.rules.specs.Start.{startChannel, asAtStart, zeroState}
 use Rattle.rules.specs.Read.{statusByte, placeByte, readAt, readOf}
 use Rattle.rules.specs.Tick.{wanted, spinUpDue, overridden, tick, iterate, ticksPassed}
@@ -59,9 +59,10 @@ module _ (b : Begin) (s : State) (i : ℕ) (c : Begins b s i) where
       passes s n (c .is-valid)
       ∙ ticks-ahead s n (λ on. absurd (false≢true (rw (eq-eqb _ 0 (c .watchdog-off)) at on)))
 
-  sees-duty : (n d : ℕ) → channelTicks false n (s .timer .clock) (channel s i) ≡ withMotion (channel s i) d 0 → Sees s i (duty-after n d)
-  sees-duty n d e = (
-    ap (λ x. dutyOf x) (off n) ∙ duty-ahead s i (c .exists) (c .not-overridden) n d 0 e refl,
+  sees-duty : (n d pulses : ℕ) → channelTicks false n (s .timer .clock) (channel s i) ≡ withMotion (channel s i) d 0 pulses →
+      Sees s i (duty-after n d)
+  sees-duty n d pulses e = (
+    ap (λ x. dutyOf x) (off n) ∙ duty-ahead s i (c .exists) (c .not-overridden) n d 0 pulses e refl,
     ap (λ x. channel x i .ramp) (off n) ∙ ap (λ (x : Channel). x .ramp) (channel-ahead s i (c .exists) (c .not-overridden) n ∙ e),
   )
     where
@@ -76,17 +77,17 @@ module _ (b : Begin) (s : State) (i : ℕ) (c : Begins b s i) where
   sees-ramp : dueFrom b ≡ false → eqb (b .rate) 0 ≡ false → (n : ℕ) → Sees s i (duty-after n (rampedFrom b n))
   unfolding wanted
   sees-ramp no-spin rate n =
-      sees-duty n _
+      sees-duty n _ (channel s i .pulses)
       (ticks-ramp (s .timer .clock) (channel s i) (c .not-running) (due-is ∙ no-spin) n (λ z. eqb-false _ 0 rate (sym (c .rate) ∙ z))
       ∙ rw (c .ramp, c .target, c .rate, c .falls, c .clock, c .not-running) refl)
 
   sees-spin-up : dueFrom b ≡ true → eqb (b .rate) 0 ≡ false → (n : ℕ) → spinTicks (b .spin-up) + 1 ≤ n → Sees s i (duty-after n (spunFrom b n))
   unfolding wanted
   sees-spin-up spin rate n l =
-      let full = withMotion (channel s i) 511 (channel s i .spin) in
-      sees-duty n _
+      let full = withMotion (channel s i) 511 (channel s i .spin) 0 in
+      sees-duty n _ 0
       (ticks-due-past n (s .timer .clock) (channel s i) (c .not-running) (due-is ∙ spin) (omega arith) (rw (c .spin-up) (omega arith))
-      ∙ ticks-ramp _ full (c .not-running) (full-not-due (channel s i) (channel s i .spin)) _ (λ z. eqb-false _ 0 rate (sym (c .rate) ∙ z))
+      ∙ ticks-ramp _ full (c .not-running) (full-not-due (channel s i) (channel s i .spin) 0) _ (λ z. eqb-false _ 0 rate (sym (c .rate) ∙ z))
       ∙ rw (c .target, c .rate, c .falls, c .spin-up, c .clock, c .not-running) refl)
 
 -- ---- the watchdog
@@ -200,9 +201,9 @@ with-the-eighth s i counts c k l =
 -- six channels that begin so, with a configuration byte and an options byte
 abbrev example : Begin → ℕ → ℕ → State
 example b config options =
-    let v = startValues 0 0 (b .target) 0 in
+    let v = startValues 0 0 (b .target) 0 0 in
     let dynamics = b .rate * 4 + flag (b .falls) * 2 in
-    let ch = withMotion (withSettings (startChannel v) config dynamics 0 (b .target) 480) (b .ramp) 0 in
+    let ch = withMotion (withSettings (startChannel v) config dynamics 0 (b .target) 480) (b .ramp) 0 0 in
     withChannels (withRegisters (asAtStart v (b .clock) true) (registers 0x20 0 0x3F 0x3F options)) (replicate 6 ch)
 
 begins-example : (b : Begin) (config : ℕ) → let s = example b config 0x45 in
@@ -242,14 +243,14 @@ abbrev pub steady : State
 steady = example (record { ramp = 200; target = 200; rate = 3; falls = false; spin-up = 0; clock = 0 }) 0x08 0x46
 
 steady-enabled : Enabled steady 0
-unfolding validOf validRegisters validStart validTimer validChannel
+unfolding validOf validRegisters validStart validTimer validChannel validPulses
 steady-enabled = record { channel-is = one-of-six-example steady refl refl; enabled = refl }
 
 abbrev watched : State
-watched = asAtStart (startValues 1 0 0 0) 0 true
+watched = asAtStart (startValues 1 0 0 0 0) 0 true
 
 pub trials-hold : TrialsHold
-unfolding validOf validRegisters validStart validTimer validChannel conditionsOf overrideBy outputDuty judged isBad spinTicks watchdogLimit approach ahead clockAt speedOf speedRefused speedRange
+unfolding validOf validRegisters validStart validTimer validChannel validPulses conditionsOf overrideBy outputDuty judged isBad spinTicks watchdogLimit approach ahead clockAt speedOf speedRefused speedRange
 trials-hold =
     ((λ s i c. sees-ramp rising s i c refl refl 37 also sees-ramp rising s i c refl refl 38 also tt)
     also (example rising 0 0x45, 0, begins-example rising 0 refl refl refl refl refl))

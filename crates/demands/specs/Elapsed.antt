@@ -1,5 +1,5 @@
 -- Demand 3, and "Quiet spans": what passes in a list of calls, each given the state that the one before left, with nothing between. A
--- list gives the ticks of each call; the paper calls a call a jump, and the list a quiet span.
+-- list gives the ticks of each call; the paper calls a call a jump, and the list a quiet span. K7: "A pulse breaks a quiet span", as any call but a jump does.
 use Prim.Native.Nat.{ℕ, _+_, _-_, _*_, _/_, _^_, _<_}
 use mathlib.Core.Path.{_≡_}
 use mathlib.Core.Bool.{true, false}

@@ -49,9 +49,10 @@ module _ (s : State) (r : WordRegister) (i word : ℕ) where
     -- "and for a duty clears the fault once"; a target count leaves it
     pub fault : channel afterWord i .fault ≡ (if isDuty r then false else channel s i .fault)
     pub queue : channel afterWord i .queue ≡ (if isDuty r then 0 else channel s i .queue)
-    -- the ramp value stays and so does a running spin-up, so that a fan which turns is not started anew
+    -- the ramp value stays and so does a running spin-up with its pulses, so that a fan which turns is not started anew
     pub ramp : channel afterWord i .ramp ≡ channel s i .ramp
     pub spin : channel afterWord i .spin ≡ channel s i .spin
+    pub pulses : channel afterWord i .pulses ≡ channel s i .pulses
     pub not-due : (channel s i .ramp ≡ 0 → ⊥) → spinUpDue (channel afterWord i) ≡ false
     -- and so does every other channel
     pub others : (k : ℕ) → (k ≡ i → ⊥) → channel afterWord k ≡ channel s k

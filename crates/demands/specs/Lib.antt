@@ -3,3 +3,4 @@ pub mod Types
 pub mod Elapsed
 pub mod Trials
 pub mod InOneGo
+pub mod Pulses

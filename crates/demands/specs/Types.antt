@@ -14,4 +14,4 @@ pub use Rattle.rules.specs.declared.Answer.{Answer}
 pub use Rattle.rules.specs.declared.ReadAnswer.{ReadAnswer}
 pub use Rattle.rules.specs.declared.Speed.the-variants.{Rpm}
 pub use Rattle.rules.specs.declared.Call.{Call}
-pub use Rattle.rules.specs.declared.Call.the-variants.{Ticks, Tachometer, WriteWord}
+pub use Rattle.rules.specs.declared.Call.the-variants.{Write, Read, Ticks, Tachometer, Pin, WriteWord, Pulse}

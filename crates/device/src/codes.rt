@@ -1,7 +1,7 @@
 // What the codes of the registers stand for.
 ghost use mathlib.Core.Path.{_≡_};
 ghost use Prim.Native.Nat.{_%_, _^_, _≤_};
-ghost use Rattle.rules.specs.Time.{watchdogLimit, spinTicks, ratePeriod};
+ghost use Rattle.rules.specs.Time.{watchdogLimit, spinTicks, endsEarly, ratePeriod};
 ghost use Rattle.rules.specs.Tachometer.{queueLength};
 
 const WATCHDOG_LIMITS: [u16; 4] = [0, 2560, 5120, 15360];
@@ -31,6 +31,13 @@ pub fn spin_ticks(code: u8) -> u16
         return SPIN_TICKS[code as usize];
     }
     0
+}
+
+// Whether spin-up ends when the fan turns: modification B.
+pub fn ends_early(modification: u8) -> bool
+    ensures { λ r. ⌜ r ≡ endsEarly modification ⌝ }
+{
+    modification == 1
 }
 
 // How many bad results in a row make a fault.

@@ -12,7 +12,7 @@ use rules::Conditions;
 use rules::Override;
 use rules::State;
 
-fn flag(on: bool) -> u8
+pub fn flag(on: bool) -> u8
     ensures { λ r. ⌜ (r ≡ flag on) × (r ≤ 1) ⌝ }
 {
     if on {

@@ -21,6 +21,7 @@ fn start_channel(start: StartValues) -> Channel
         fault: false,
         ramp: 0,
         spin: 0,
+        pulses: 0,
     }
 }
 

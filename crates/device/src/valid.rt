@@ -1,8 +1,12 @@
-// Whether a state is valid: the test of refusal 1.
+// Whether a state is valid, and whether there is a channel of a number: the tests of refusals 1 and 5.
 ghost use mathlib.Core.Path.{_≡_};
 ghost use Rattle.rules.specs.Basics.{every};
-ghost use Rattle.rules.specs.Valid.{validSettings, validResults, validMotion, validChannel, validRegisters, validStart, validTimer, validOf};
+ghost use Rattle.rules.specs.Calls.{isChannel};
+ghost use Rattle.rules.specs.Valid.{validSettings, validResults, validMotion, validChannel, validPulses, validRegisters, validStart, validTimer, validOf};
+ghost use Rattle.laws.proofs.Valid.{noneCounted};
+use crate::codes::ends_early;
 use crate::codes::watchdog_limit;
+use crate::duty::flag;
 use registers::fields::monitor_only;
 use registers::fields::standby;
 use registers::fields::watchdog_code;
@@ -32,13 +36,13 @@ fn valid_results(channel: Channel) -> bool
     (channel.count < 2048) & (channel.queue <= 6)
 }
 
+// Fewer tests than the definition has: where a spin-up runs the ramp value is 511, so a channel that stands still has none.
 fn valid_motion(still: bool, channel: Channel) -> bool
     ensures { λ r. ⌜ r ≡ validMotion still channel ⌝ }
 {
     (channel.ramp < 512)
-        & (channel.spin <= 1024)
-        & (!still | ((channel.ramp == 0) & (channel.spin == 0)))
-        & (!(0 < channel.spin) | (channel.ramp == 511))
+        & (!still | (channel.ramp == 0))
+        & ((channel.spin == 0) | ((channel.ramp == 511) & (channel.spin <= 1024)))
 }
 
 fn valid_channel(in_standby: bool, channel: Channel) -> bool
@@ -60,6 +64,42 @@ fn valid_channels(in_standby: bool, channels: [Channel; 6]) -> bool
     all
 }
 
+// No channel has a pulse counted.
+fn none_counted(channels: [Channel; 6]) -> bool
+    ensures { λ r. ⌜ r ≡ every noneCounted channels ⌝ }
+{
+    let mut none = true;
+    let mut i = 0;
+    while i < 6 {
+        none = none & (channels[i].pulses == 0);
+        i += 1;
+    }
+    none
+}
+
+fn valid_counts(early: bool, channels: [Channel; 6]) -> bool
+    ensures { λ r. ⌜ r ≡ every (validPulses early) channels ⌝ }
+{
+    let mut all = true;
+    let mut i = 0;
+    while i < 6 {
+        let channel = channels[i];
+        all = all & (channel.pulses <= flag(early & (0 < channel.spin)));
+        i += 1;
+    }
+    all
+}
+
+// Pulses are counted for moments only, so one look at all six is mostly enough.
+fn valid_pulses(early: bool, channels: [Channel; 6]) -> bool
+    ensures { λ r. ⌜ r ≡ every (validPulses early) channels ⌝ }
+{
+    if none_counted(channels) {
+        return true;
+    }
+    valid_counts(early, channels)
+}
+
 fn valid_registers(registers: Registers) -> bool
     ensures { λ r. ⌜ r ≡ validRegisters registers ⌝ }
 {
@@ -73,7 +113,7 @@ fn valid_registers(registers: Registers) -> bool
 fn valid_start(start: StartValues) -> bool
     ensures { λ r. ⌜ r ≡ validStart start ⌝ }
 {
-    (start.watchdog < 4) & (start.spinup < 4) & (start.target < 512)
+    (start.watchdog < 4) & (start.spinup < 4) & (start.target < 512) & (start.modification < 2)
 }
 
 fn valid_timer(code: u8, timer: Timer) -> bool
@@ -96,8 +136,17 @@ pub fn valid(state: State) -> bool
     let start = state.start;
     let timer = state.timer;
     let channels = state.channels;
+    let pulses = valid_pulses(ends_early(start.modification), channels);
     valid_registers(registers)
         & valid_start(start)
         & valid_timer(watchdog_code(registers.control), timer)
         & valid_channels(standby(registers.control), channels)
+        & pulses
+}
+
+// Channels are counted from 1.
+pub fn is_channel(number: u32) -> bool
+    ensures { λ r. ⌜ r ≡ isChannel number ⌝ }
+{
+    (1 <= number) & (number <= 6)
 }

@@ -31,6 +31,7 @@ module _ (hand : Hand) (at : ℕ) (before after : List ℕ) (reply : Reply) wher
   device-long device.Read v a = a .within
   device-long device.Ticks v a = a .within
   device-long device.Tach v a = a .within
+  device-long device.Pulse v a = a .within
   device-long device.Pin v a = a .within
 
   pub row-long : (verb : Verb) (v bytes : List ℕ) → Answers hand at before after reply verb v bytes → reply .at ≤ at + longestOf verb

@@ -16,13 +16,13 @@ use Rattle.table.specs.Table.{longestOf}
 use Rattle.commands.specs.Commands.{parsedOf, valuesOf, lineBytes, bytesOf, orderBy}
 use Rattle.answers.specs.declared.replies.Hand.{Hand}
 use Rattle.answers.specs.declared.replies.Reply.{Reply}
-use Rattle.answers.specs.Replies.{Makes, MakesRead, Starts, TellsFanFail, TellsCabin, TellsSpeed, Dumps, Loads, Shows, writeCall, wordCall, readCall, ticksCall, tachCall, pinCall}
+use Rattle.answers.specs.Replies.{Makes, MakesRead, Starts, TellsFanFail, TellsCabin, TellsSpeed, Dumps, Loads, Shows, writeCall, wordCall, readCall, ticksCall, tachCall, pulseCall, pinCall}
 use Rattle.order_text.specs.Replies.{Runs, Encodes}
 use Rattle.galley_dispatch.specs.Answers.{AnswersGalley}
 
 -- the longest error; the longest answer, for which room is made before each line
 abbrev pub longestError : ℕ
-longestError = 97
+longestError = 110
 
 abbrev pub longestAnswer : ℕ
 longestAnswer = 43_079
@@ -37,6 +37,7 @@ module _ (hand : Hand) (at : ℕ) (before after : List ℕ) (reply : Reply) wher
   AnswersDevice device.Read v = MakesRead hand at before after reply (readCall v)
   AnswersDevice device.Ticks v = Makes hand at before after reply (ticksCall v)
   AnswersDevice device.Tach v = Makes hand at before after reply (tachCall v)
+  AnswersDevice device.Pulse v = Makes hand at before after reply (pulseCall v)
   AnswersDevice device.Pin v = Makes hand at before after reply (pinCall v)
 
   -- a command's answer, and what is in hand after it

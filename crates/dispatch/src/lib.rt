@@ -9,6 +9,7 @@ use answers::replies::dump_reply;
 use answers::replies::fan_fail_reply;
 use answers::replies::load_reply;
 use answers::replies::pin_reply;
+use answers::replies::pulse_reply;
 use answers::replies::read_reply;
 use answers::replies::replied;
 use answers::replies::speed_reply;
@@ -47,6 +48,7 @@ fn device_reply(verb: DeviceVerb, hand: Hand, values: &[u32], out: &mut [u8], at
         DeviceVerb::Read => read_reply(hand, values, out, at),
         DeviceVerb::Ticks => ticks_reply(hand, values, out, at),
         DeviceVerb::Tach => tach_reply(hand, values, out, at),
+        DeviceVerb::Pulse => pulse_reply(hand, values, out, at),
         DeviceVerb::Pin => pin_reply(hand, values, out, at),
     }
 }

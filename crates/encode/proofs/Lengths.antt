@@ -6,7 +6,7 @@ use lib.Dec.{ltb}
 use lib.ListN.{length, length-append}
 use Rattle.rules.proofs.Tests.{by-test}
 use Rattle.strings.specs.declared.Order.{Order}
-use Rattle.strings.specs.declared.Order.the-variants.{Write, Read, Ticks, Tachometer, Pin, WriteWord}
+use Rattle.strings.specs.declared.Order.the-variants.{Write, Read, Ticks, Tachometer, Pin, WriteWord, Pulse}
 use Rattle.strings.specs.Encode.{bytesWithin, numberBytes, numbersBytes, encoded}
 
 within-length : (room n : ℕ) → length (bytesWithin room n) ≤ room
@@ -29,3 +29,4 @@ record-length (Ticks n) = omega (arith, numbers-length (n ∷ []))
 record-length (Tachometer channel count) = omega (arith, numbers-length (channel ∷ count ∷ []))
 record-length (Pin level) = omega (arith, numbers-length (level ∷ []))
 record-length (WriteWord address word) = omega (arith, numbers-length (address ∷ word ∷ []))
+record-length (Pulse channel) = omega (arith, numbers-length (channel ∷ []))

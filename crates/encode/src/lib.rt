@@ -7,6 +7,7 @@ ghost use Rattle.strings.specs.Encode.{numberBytes, numbersBytes, encoded, orde
 use rules::Call;
 use strings::Order;
 use strings::PIN;
+use strings::PULSE;
 use strings::READ;
 use strings::TACHOMETER;
 use strings::TICKS;
@@ -25,6 +26,7 @@ pub fn order_of(call: Call) -> Order
         Call::Tachometer(channel, count) => Order::Tachometer(channel, count),
         Call::Pin(high) => Order::Pin(high as u32),
         Call::WriteWord(address, word) => Order::WriteWord(address, word as u32),
+        Call::Pulse(channel) => Order::Pulse(channel),
     }
 }
 
@@ -81,5 +83,6 @@ pub fn encode(order: Order, out: &mut [u8], at: usize) -> usize
         Order::Tachometer(channel, count) => put_numbers(&[TACHOMETER, channel, count], out, at),
         Order::Pin(level) => put_numbers(&[PIN, level], out, at),
         Order::WriteWord(address, word) => put_numbers(&[WRITE_WORD, address, word], out, at),
+        Order::Pulse(channel) => put_numbers(&[PULSE, channel], out, at),
     }
 }

@@ -45,6 +45,7 @@ fn passed(letters: [u8; 18]) -> State {
         six_bits(letters[1]),
         six_bits(letters[2]),
         letters[3],
+        six_bits(letters[8]),
     );
     let written = write::write(begun.state, six_bits(letters[4]), letters[5]);
     let address = 0x40 + (letters[11] % 64) as u32;
@@ -56,7 +57,8 @@ fn passed(letters: [u8; 18]) -> State {
 
 fn changed(state: State, letters: [u8; 18]) -> State {
     let channel = six_bits(letters[8]);
-    let judged = tachometer::take_result(state, channel, six_bits(letters[9]) << 5);
+    let pulsed = pulse::take_pulse(state, channel);
+    let judged = tachometer::take_result(pulsed.state, channel, six_bits(letters[9]) << 5);
     let set = pin::set_pin(judged.state, letters[10] == b'A');
     let read = read::read(set.state, six_bits(letters[4]));
     tell(b"read ", read.byte as u64);

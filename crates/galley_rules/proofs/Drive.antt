@@ -134,12 +134,12 @@ module _ (g : Galley) (s : State) (t : ℤ) (normal quiet : List ℕ) where
 
 -- a box as at start with its watchdog on, a fresh galley, and a sample that changes every target
 pub driven-example :
-    let s = startOf 1 1 300 0x11 .state in
+    let s = startOf 1 1 300 0x11 0 .state in
     let g = freshOf (pos 640) (pos 720) false true .galley in
     let table : List ℕ = replicate 48 100 in
     (sampleRefusal g s (pos 320) table table ≡ accepted) × (length (s .channels) ≡ 6) × (every (λ v. ltb v 256) table ≡ true)
     × (sampleDuty g s (pos 320) table table ≡ 200) × (targets s ≡ replicate 6 300)
 unfolding freshOf inRange sampleRefusal validGalley areTables rowDuty rowAfter rowOf
 driven-example =
-    let set = start-targets 1 1 300 0x11 (omega arith) (omega arith) (omega arith) in
-    (rw (start-valid 1 1 300 0x11) refl, length-before Channel ℕ (λ ch. ch .target) (startOf 1 1 300 0x11 .state .channels) 6 (ap (λ l. length l) set), refl, refl, set)
+    let set = start-targets 1 1 300 0x11 0 (omega arith) (omega arith) (omega arith) (omega arith) in
+    (rw (start-valid 1 1 300 0x11 0) refl, length-before Channel ℕ (λ ch. ch .target) (startOf 1 1 300 0x11 0 .state .channels) 6 (ap (λ l. length l) set), refl, refl, set)

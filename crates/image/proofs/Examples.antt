@@ -1,4 +1,4 @@
--- The round trips, of a valid state with its second fan failed and its third spinning up, and of the largest numbers.
+-- The round trips, of a valid state with its second fan failed and its third spinning up with one pulse counted, and of the largest numbers.
 use Prim.Native.Nat.{ℕ}
 use mathlib.Core.Path.{_≡_, refl}
 use mathlib.Core.Bool.{Bool, true, false, _&&_, false≢true}
@@ -6,7 +6,7 @@ use mathlib.Core.List.{List, [], _∷_}
 use lib.Dec.{leb}
 use borrow.Author.Tests.{leb-true}
 use Rattle.rules.specs.Time.{watchdogLimit}
-use Rattle.rules.specs.Valid.{validChannel, validRegisters, validStart, validTimer, validOf}
+use Rattle.rules.specs.Valid.{validChannel, validPulses, validRegisters, validStart, validTimer, validOf}
 use Rattle.rules.proofs.Tests.{and-left, and-right}
 use Rattle.image.specs.Image.{channelsLimits, limits, Within, stateNumbers, channelFrom, channelAt, registersFrom, timerFrom, startFrom, stateFrom}
 use Rattle.image.proofs.RoundTrips.{round-trips}
@@ -28,13 +28,13 @@ within-by (most ∷ l) (n ∷ v) e =
 
 abbrev numbers : List ℕ
 numbers =
-    5120 ∷ 1 ∷ 45 ∷ 196 ∷ 2 ∷ 63 ∷ 32 ∷ 41 ∷ 0 ∷ 17 ∷ 2 ∷ 1 ∷ 128 ∷ 196
-    ∷ 104 ∷ 84 ∷ 900 ∷ 300 ∷ 0 ∷ 400 ∷ 2000 ∷ 5 ∷ 0
-    ∷ 72 ∷ 76 ∷ 2047 ∷ 20 ∷ 0 ∷ 20 ∷ 1100 ∷ 0 ∷ 3
-    ∷ 40 ∷ 94 ∷ 1 ∷ 511 ∷ 250 ∷ 511 ∷ 0 ∷ 255 ∷ 0
-    ∷ 16 ∷ 0 ∷ 7 ∷ 0 ∷ 0 ∷ 128 ∷ 1 ∷ 0 ∷ 0
-    ∷ 8 ∷ 2 ∷ 640 ∷ 511 ∷ 0 ∷ 510 ∷ 2047 ∷ 16 ∷ 1
-    ∷ 0 ∷ 254 ∷ 0 ∷ 77 ∷ 0 ∷ 76 ∷ 64 ∷ 1 ∷ 0
+    5120 ∷ 1 ∷ 45 ∷ 196 ∷ 2 ∷ 63 ∷ 32 ∷ 41 ∷ 0 ∷ 17 ∷ 2 ∷ 1 ∷ 128 ∷ 196 ∷ 1
+    ∷ 104 ∷ 84 ∷ 900 ∷ 300 ∷ 0 ∷ 400 ∷ 2000 ∷ 5 ∷ 0 ∷ 0
+    ∷ 72 ∷ 76 ∷ 2047 ∷ 20 ∷ 0 ∷ 20 ∷ 1100 ∷ 0 ∷ 3 ∷ 0
+    ∷ 40 ∷ 94 ∷ 1 ∷ 511 ∷ 250 ∷ 511 ∷ 0 ∷ 255 ∷ 0 ∷ 1
+    ∷ 16 ∷ 0 ∷ 7 ∷ 0 ∷ 0 ∷ 128 ∷ 1 ∷ 0 ∷ 0 ∷ 0
+    ∷ 8 ∷ 2 ∷ 640 ∷ 511 ∷ 0 ∷ 510 ∷ 2047 ∷ 16 ∷ 1 ∷ 0
+    ∷ 0 ∷ 254 ∷ 0 ∷ 77 ∷ 0 ∷ 76 ∷ 64 ∷ 1 ∷ 0 ∷ 0
     ∷ []
 
 pub numbers-within : Within limits numbers
@@ -42,7 +42,7 @@ unfolding limits channelsLimits
 numbers-within = within-by limits numbers refl
 
 pub numbers-valid : validOf (stateFrom numbers) ≡ true
-unfolding validOf validRegisters validStart validTimer validChannel watchdogLimit stateFrom registersFrom startFrom timerFrom channelAt channelFrom
+unfolding validOf validRegisters validStart validTimer validChannel validPulses watchdogLimit stateFrom registersFrom startFrom timerFrom channelAt channelFrom
 numbers-valid = refl
 
 pub numbers-again : stateNumbers (stateFrom numbers) ≡ numbers

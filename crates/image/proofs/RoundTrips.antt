@@ -54,7 +54,7 @@ next-own v i = let e : ownFrom (suc i) ≡ ownFrom i + length channelTable = ome
 -- ---- `load` of `dump`
 
 module _ (ch : Channel) (rest : List ℕ) (w : Within (limitsIn channelTable) (numbersIn channelTable ch)) where
-  channel-back : (fault : Bool) → fault ≡ ch .fault → channelFrom fault (numbersIn channelTable ch ++ rest) ≡ withMotion ch (ch .ramp) (ch .spin)
+  channel-back : (fault : Bool) → fault ≡ ch .fault → channelFrom fault (numbersIn channelTable ch ++ rest) ≡ withMotion ch (ch .ramp) (ch .spin) (ch .pulses)
   unfolding channelFrom
   channel-back fault e = cc (held-whole (limitsIn channelTable) (numbersIn channelTable ch) w)
 
@@ -86,7 +86,7 @@ module _ (s : State) (rest : List ℕ) (w : Within (limitsIn boxTable) (numbersI
 
   start-back : startFrom box ≡ s .start
   unfolding startFrom
-  start-back = rw (whole 10, whole 11, whole 12, whole 13)
+  start-back = rw (whole 10, whole 11, whole 12, whole 13, whole 14)
 
   registers-back : StatusApart s → registersFrom box ≡ s .registers
   unfolding registersFrom

@@ -24,8 +24,8 @@ abbrev pub row : {A : Type 0} → ℕ → (A → ℕ) → Row A
 row most value = record { most = most; value = value }
 
 -- "clock pin control frequency faults mask2 mask1 options expired idle start_watchdog start_spinup start_target
--- start_frequency", the registers "as they read". "What the state can hold: clock 32 bits; pin, expired 0 or 1; faults 0 to
--- 63; idle, start_target, count, ramp, spin, target, target_count 16 bits; the rest 8 bits"
+-- start_frequency", and K7: "the modification after `start_frequency`"; the registers "as they read". "What the state can hold: clock 32
+-- bits; pin, expired 0 or 1; faults 0 to 63; idle, start_target, count, ramp, spin, target, target_count 16 bits; the rest 8 bits"
 abbrev pub boxTable : List (Row State)
 boxTable =
     row 4294967295 (λ s. s .timer .clock)
@@ -42,9 +42,11 @@ boxTable =
     ∷ row 255 (λ s. s .start .spinup)
     ∷ row 65535 (λ s. s .start .target)
     ∷ row 255 (λ s. s .start .frequency)
+    ∷ row 255 (λ s. s .start .modification)
     ∷ []
 
--- "then for channels 1 to 6: config dynamics count ramp spin target target_count window queue"
+-- "then for channels 1 to 6: config dynamics count ramp spin target target_count window queue", and K7: "after each channel's `queue` its
+-- count of pulses"
 abbrev pub channelTable : List (Row Channel)
 channelTable =
     row 255 (λ ch. ch .config)
@@ -56,6 +58,7 @@ channelTable =
     ∷ row 65535 (λ ch. ch .«target_count»)
     ∷ row 255 (λ ch. ch .window)
     ∷ row 255 (λ ch. ch .queue)
+    ∷ row 255 (λ ch. ch .pulses)
     ∷ []
 
 -- its two columns
@@ -130,6 +133,7 @@ channelFrom fault v =
       fault = fault;
       ramp = wordOf (number v 3);
       spin = wordOf (number v 4);
+      pulses = byteOf (number v 9);
     }
 
 -- the channel with index i: where its numbers begin; its fault is bit i of `faults`
@@ -166,6 +170,7 @@ startFrom v =
       spinup = byteOf (number v 11);
       target = wordOf (number v 12);
       frequency = byteOf (number v 13);
+      modification = byteOf (number v 14);
     }
 
 unfoldable pub stateFrom : List ℕ → State

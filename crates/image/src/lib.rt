@@ -17,9 +17,9 @@ use rules::State;
 use rules::Timer;
 
 // How many numbers the box has, each channel, and a state.
-pub const BOX_NUMBERS: usize = 14;
+pub const BOX_NUMBERS: usize = 15;
 
-pub const CHANNEL_NUMBERS: usize = 9;
+pub const CHANNEL_NUMBERS: usize = 10;
 
 pub const STATE_NUMBERS: usize = BOX_NUMBERS + 6 * CHANNEL_NUMBERS;
 
@@ -39,6 +39,7 @@ const BOX_LIMITS: [u32; BOX_NUMBERS] = [
     255,
     65535,
     255,
+    255,
 ];
 
 const CHANNEL_LIMITS: [u32; CHANNEL_NUMBERS] = [
@@ -49,6 +50,7 @@ const CHANNEL_LIMITS: [u32; CHANNEL_NUMBERS] = [
     65535,
     65535,
     65535,
+    255,
     255,
     255,
 ];
@@ -137,6 +139,7 @@ fn box_numbers(state: State) -> [u32; BOX_NUMBERS]
         of_byte(start.spinup),
         of_word(start.target),
         of_byte(start.frequency),
+        of_byte(start.modification),
     ]
 }
 
@@ -153,6 +156,7 @@ fn channel_numbers(channel: Channel) -> [u32; CHANNEL_NUMBERS]
         of_word(channel.target_count),
         of_byte(channel.window),
         of_byte(channel.queue),
+        of_byte(channel.pulses),
     ]
 }
 
@@ -237,6 +241,7 @@ fn channel_of(own: &[u32], fault: bool) -> Channel
         config: byte(own, 0),
         dynamics: byte(own, 1),
         window: byte(own, 7),
+        pulses: byte(own, 9),
         target: word(own, 5),
         target_count: word(own, 6),
         count: word(own, 2),
@@ -291,6 +296,7 @@ fn start_of(values: &[u32]) -> StartValues
         spinup: byte(values, 11),
         target: word(values, 12),
         frequency: byte(values, 13),
+        modification: byte(values, 14),
     }
 }
 

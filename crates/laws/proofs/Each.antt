@@ -1,11 +1,14 @@
--- A loop that changes the elements of a list one after the other, from the first on.
+-- A loop over the elements of a list, one after the other from the first on: it changes them, or tests them.
 use Prim.Native.Nat.{ℕ, zero, suc, _+_, _-_, _≤_, _<_}
 use mathlib.Core.Path.{_≡_, refl, sym, _∙_, ap, ap₂}
+use mathlib.Core.Bool.{Bool, true, _&&_}
 use mathlib.Core.List.{List, [], _∷_, _++_, map}
 use native.Mathlib.Numerals.{add-one}
 use native.Mathlib.Omega.{arith}
 use lib.ListN.{length, getD, set, take, length-map, length-set}
 use lib.Seq.{take-suc, take-suc-set, take-all}
+use Rattle.rules.specs.Basics.{every}
+use Rattle.rules.proofs.Tests.{every-take}
 
 -- element i of a list whose elements are all changed
 pub map-at : {A B : Type 0} (f : A → B) (xs : List A) (i : ℕ) (d : A) (e : B) → i < length xs → getD (map f xs) i e ≡ f (getD xs i d)
@@ -56,3 +59,20 @@ module _ {A B : Type 0} (f : A → B) (xs : List A) where
 
   pub filled-all : (ys : List B) (n : ℕ) → length xs ≤ n → Filled ys n → ys ≡ map f xs
   filled-all ys n h v = sym (take-all n ys (omega (arith, v .long))) ∙ v .front ∙ take-all n (map f xs) (rw length-map h)
+
+-- a flag that a loop makes false where a test fails: the first n are tested
+module _ {A : Type 0} (test : A → Bool) (xs : List A) where
+  pub record Tested (flag : Bool) (n : ℕ) : Type 0 where
+    pub front : flag ≡ every test (take n xs)
+    pub few : n ≤ length xs
+
+  pub tested-none : Tested true 0
+  tested-none = record { front = refl; few = omega arith }
+
+  pub tested-more : (flag : Bool) (n : ℕ) (d : A) (told : Bool) → Tested flag n → n < length xs → told ≡ test (getD xs n d) →
+      Tested (flag && told) (n + 1)
+  tested-more flag n d told v h e =
+      record { front = rw add-one (ap₂ _&&_ (v .front) e ∙ sym (every-take test xs n d h)); few = omega arith }
+
+  pub tested-all : (flag : Bool) (n : ℕ) → length xs ≤ n → Tested flag n → flag ≡ every test xs
+  tested-all flag n h v = v .front ∙ ap (every test) (take-all n xs h)

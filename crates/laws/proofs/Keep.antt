@@ -7,21 +7,22 @@ use lib.Dec.{eqb}
 use borrow.Author.Tests.{eq-eqb}
 use Rattle.rules.specs.Basics.{every}
 use Rattle.rules.specs.Map.{settingAt, placeAt, isCarried}
-use Rattle.rules.specs.Calls.{accepted, stateNotValid, readOnly, answer, unlessRefused}
-use Rattle.rules.specs.Valid.{validChannel, validRegisters, validStart, validTimer, validOf, ifValid}
+use Rattle.rules.specs.Calls.{accepted, stateNotValid, readOnly, answer, unlessRefused, isChannel, ifChannel}
+use Rattle.rules.specs.Valid.{validChannel, validPulses, validRegisters, validStart, validTimer, validOf, ifValid}
 use Rattle.rules.specs.Time.{watchdogLimit}
 use Rattle.rules.specs.Start.{zeroState}
 use Rattle.rules.specs.Write.{writeRefusal, writeOf}
 use Rattle.rules.specs.WriteWord.{wordRefusal, writeWordOf}
 use Rattle.rules.specs.Read.{readAt, readOf}
 use Rattle.rules.specs.Tick.{tick, iterate, ticksPassed}
-use Rattle.rules.specs.Tachometer.{isChannel, resultOf}
+use Rattle.rules.specs.Tachometer.{resultOf}
 use Rattle.rules.specs.Pin.{pinOf}
+use Rattle.rules.specs.Pulse.{pulseOf}
 use Rattle.rules.specs.Make.{made, madeEach, afterEach, Keeps}
 use Rattle.rules.proofs.Tests.{choice}
-use Rattle.laws.proofs.Types.{State, Answer, ReadAnswer, Call, Write, Read, Ticks, Tachometer, Pin, WriteWord}
+use Rattle.laws.proofs.Types.{State, Answer, ReadAnswer, Call, Write, Read, Ticks, Tachometer, Pin, WriteWord, Pulse}
 use Rattle.laws.proofs.Kept.{write-valid, write-word-valid, read-valid}
-use Rattle.laws.proofs.Results.{result-valid, pin-valid}
+use Rattle.laws.proofs.Results.{result-valid, pulse-valid, pin-valid}
 use Rattle.laws.proofs.TickValid.{iterate-valid}
 
 -- ---- the call that passes ticks, by its test
@@ -74,10 +75,17 @@ module _ (s : State) where
   unfolding ticksPassed
   ticks-same n = same-if-valid s _ (accepted-same s _)
 
+  of-channel-same : (n : ℕ) (next : State) → SameAnswer s (ifValid s (ifChannel n s next))
+  of-channel-same n next =
+      same-if-valid s _ (choice (SameAnswer s) (isChannel n) _ _ (λ e. accepted-same s next) (λ e refused. refl))
+
   result-same : (n count : ℕ) → SameAnswer s (resultOf s n count)
   unfolding resultOf
-  result-same n count =
-      same-if-valid s _ (choice (SameAnswer s) (isChannel n) _ _ (λ e. accepted-same s _) (λ e refused. refl))
+  result-same n count = of-channel-same n _
+
+  pulse-same : (n : ℕ) → SameAnswer s (pulseOf s n)
+  unfolding pulseOf
+  pulse-same n = of-channel-same n _
 
 -- ---- every call
 
@@ -95,10 +103,11 @@ calls-keep s (Pin high) =
     }
 calls-keep s (WriteWord a word) =
     record { refused = write-word-same s a word; valid = λ v. write-word-valid s v a word }
+calls-keep s (Pulse n) = record { refused = pulse-same s n; valid = λ v. pulse-valid s v n }
 
 -- a valid state and a call that it refuses: a write to 11h, which can only be read
 pub kept-example : (validOf zeroState ≡ true) × (made zeroState (Write 0x11 0) .refusal ≡ readOnly)
-unfolding made writeOf writeRefusal placeAt settingAt validOf validRegisters validStart validTimer validChannel watchdogLimit
+unfolding made writeOf writeRefusal placeAt settingAt validOf validRegisters validStart validTimer validChannel validPulses watchdogLimit
 kept-example = (refl, refl)
 
 -- and so after a list of them

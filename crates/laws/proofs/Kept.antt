@@ -2,7 +2,7 @@
 use Prim.Native.Nat.{ℕ, _+_, _*_, _/_, _%_, _<_}
 use mathlib.Core.Path.{_≡_, refl, _∙_, ap}
 use mathlib.Core.Bool.{Bool, true, false, not, _||_, Bool·beq, or-true}
-use mathlib.Core.List.{List, map, map-id}
+use mathlib.Core.List.{List, map}
 use native.Mathlib.Omega.{arith}
 use native.Mathlib.Nat.{mod-lt}
 use lib.Dec.{leb, ltb, eqb, lit<}
@@ -13,16 +13,16 @@ use Rattle.rules.specs.Basics.{_implies_, every, bit, bits}
 use Rattle.rules.specs.State.{channel, withSettings, withChannels, withRegisters, registers, startValues, timer}
 use Rattle.rules.specs.Registers.{standby, watchdogCode, monitorOnly, controlKept, dynamicsKept, maskKept, optionsKept, configRefused, targetCount}
 use Rattle.rules.specs.Words.{shownIn}
-use Rattle.rules.specs.Time.{watchdogLimit}
+use Rattle.rules.specs.Time.{watchdogLimit, endsEarly}
 use Rattle.rules.specs.Map.{placeAt, isCarried}
-use Rattle.rules.specs.Valid.{validMotion, validChannel, validRegisters, validStart, validTimer, validOf}
+use Rattle.rules.specs.Valid.{validMotion, validChannel, validPulses, validRegisters, validStart, validTimer, validOf}
 use Rattle.rules.specs.Start.{startChannel, asAtStart, zeroState, startOf}
 use Rattle.rules.specs.Write.{stopped, channelWritten, reset, boxWritten, written, writeRefusal, writeOf}
 use Rattle.rules.specs.WriteWord.{targetWritten, wordWritten, wordRefusal, writeWordOf}
 use Rattle.rules.specs.Read.{afterRead, readAt, readOf}
 use Rattle.rules.specs.Calls.{accepted, unlessRefused, accessed}
-use Rattle.rules.proofs.Tests.{by-test, same, choice, and-left, and-both, allBelow, all-below, every-set, every-map, every-replicate}
-use Rattle.laws.proofs.Valid.{parts, valid-of-parts, ChannelParts, channel-parts, parts-of-channel, valid-of-channel-parts, settings-parts, registers-parts, valid-of-registers-parts, start-target-lt, four, of-four}
+use Rattle.rules.proofs.Tests.{by-test, same, choice, and-left, and-both, allBelow, all-below, every-weaker, every-map, every-replicate}
+use Rattle.laws.proofs.Valid.{parts, valid-of-parts, ChannelParts, channel-parts, valid-of-channel-parts, channel-set, no-pulses, pulses-set, settings-parts, registers-parts, valid-of-registers-parts, start-target-lt, four, of-four}
 
 -- ---- what a register keeps of a number it keeps again: by a test of every byte, since it looks at the low eight bits alone
 
@@ -75,6 +75,7 @@ record Fed (s : State) : Type 0 where
   registers : validRegisters (s .registers) ≡ true
   start : validStart (s .start) ≡ true
   channels : every (validChannel (standby (s .registers .control))) (s .channels) ≡ true
+  pulses : every (validPulses (endsEarly (s .start .modification))) (s .channels) ≡ true
   idle : s .timer .idle ≡ 0
   expired : s .timer .expired ≡ false
 
@@ -86,17 +87,19 @@ fed-valid s f =
       start = f .start;
       timer = fresh-timer (watchdogCode (s .registers .control)) (s .timer) (f .idle) (f .expired) (omega arith);
       channels = f .channels;
+      pulses = f .pulses;
     })
 
 accessed-fed : (s : State) → validOf s ≡ true → Fed (accessed s)
 accessed-fed s e =
     let p = parts s e in
-    record { registers = p .registers; start = p .start; channels = p .channels; idle = refl; expired = refl }
+    record { registers = p .registers; start = p .start; channels = p .channels; pulses = p .pulses; idle = refl; expired = refl }
 
 -- it stays so with other registers and channels that are valid together
 rebuilt-fed : (s : State) (r : Registers) (chs : List Channel) → validRegisters r ≡ true →
-    every (validChannel (standby (r .control))) chs ≡ true → Fed s → Fed (withChannels (withRegisters s r) chs)
-rebuilt-fed s r chs v w f = record { registers = v; start = f .start; channels = w; idle = f .idle; expired = f .expired }
+    every (validChannel (standby (r .control))) chs ≡ true → every (validPulses (endsEarly (s .start .modification))) chs ≡ true →
+    Fed s → Fed (withChannels (withRegisters s r) chs)
+rebuilt-fed s r chs v w p f = record { registers = v; start = f .start; channels = w; pulses = p; idle = f .idle; expired = f .expired }
 
 -- ---- a channel
 
@@ -147,6 +150,14 @@ channel-written inStandby ch b i Dynamics e p =
     }
 channel-written inStandby ch b i Window e p = record { settings = p .settings; results = p .results; motion = p .motion }
 
+written-pulses : (early : Bool) (ch : Channel) (b : ℕ) (r : ChannelRegister) → validPulses early ch ≡ true →
+    validPulses early (channelWritten ch b r) ≡ true
+unfolding validPulses channelWritten
+written-pulses early ch b Config v =
+    choice (λ x. validPulses early x ≡ true) (bit 4 b) _ _ (λ on. no-pulses early (stopped ch) refl) (λ off. v)
+written-pulses early ch b Dynamics v = v
+written-pulses early ch b Window v = v
+
 -- the number that a word shows is below the limit of its width
 target-written : (inStandby : Bool) (ch : Channel) (word : ℕ) (r : WordRegister) → ChannelParts inStandby ch → ChannelParts inStandby (targetWritten ch word r)
 unfolding targetWritten
@@ -164,6 +175,12 @@ target-written inStandby ch word TargetCount p =
       results = p .results;
       motion = p .motion;
     }
+
+target-pulses : (early : Bool) (ch : Channel) (word : ℕ) (r : WordRegister) → validPulses early ch ≡ true →
+    validPulses early (targetWritten ch word r) ≡ true
+unfolding validPulses targetWritten
+target-pulses early ch word Target v = v
+target-pulses early ch word TargetCount v = v
 
 -- ---- as at start
 
@@ -186,18 +203,20 @@ as-at-start v clock pin e =
       start = e;
       channels =
           every-replicate (validChannel (bit 7 (0x20 + watchdog * 2))) 6 (startChannel v) (start-channel-valid _ v (start-target-lt v e));
+      pulses = every-replicate (validPulses (endsEarly (v .modification))) 6 (startChannel v) (no-pulses _ (startChannel v) refl);
       idle = refl;
       expired = refl;
     }
 
 zero-valid : validOf zeroState ≡ true
-unfolding validOf validRegisters validStart validTimer validChannel watchdogLimit
+unfolding validOf validRegisters validStart validTimer validChannel validPulses watchdogLimit
 zero-valid = refl
 
-pub start-valid : (watchdog spinup target frequency : ℕ) → validOf (startOf watchdog spinup target frequency .state) ≡ true
+pub start-valid : (watchdog spinup target frequency modification : ℕ) →
+    validOf (startOf watchdog spinup target frequency modification .state) ≡ true
 unfolding startOf
-start-valid watchdog spinup target frequency =
-    let v = startValues watchdog spinup target frequency in
+start-valid watchdog spinup target frequency modification =
+    let v = startValues watchdog spinup target frequency modification in
     choice (λ (x : Answer). validOf (x .state) ≡ true) (validStart v) _ _
     (λ e. fed-valid (asAtStart v 0 true) (as-at-start v 0 true e))
     (λ e. zero-valid)
@@ -212,7 +231,7 @@ others-written s frequency mask2 mask1 options e2 e1 e f =
     let q = registers-parts (s .registers) (f .registers) in
     rebuilt-fed s _ (s .channels)
     (valid-of-registers-parts _ (record { control = q .control; mask2 = e2; mask1 = e1; options = e }))
-    (f .channels) f
+    (f .channels) (f .pulses) f
 
 -- 00h written: in standby every channel stands still, and out of it none need
 stopped-channels : (inStandby : Bool) (chs : List Channel) → every (validChannel inStandby) chs ≡ true →
@@ -224,9 +243,8 @@ stopped-channels inStandby chs e =
     chs e
 
 free-channels : (inStandby : Bool) (chs : List Channel) → every (validChannel inStandby) chs ≡ true → every (validChannel false) chs ≡ true
-free-channels inStandby chs e =
-    rw map-id at
-    (every-map (validChannel inStandby) (validChannel false) (λ ch. ch)
+free-channels inStandby =
+    every-weaker (validChannel inStandby) (validChannel false)
     (λ ch v. let p = channel-parts inStandby ch v in
     valid-of-channel-parts false ch
     (record {
@@ -234,15 +252,17 @@ free-channels inStandby chs e =
       results = p .results;
       motion = looser-motion _ (monitorOnly (ch .config)) ch (without-left inStandby (monitorOnly (ch .config))) (p .motion);
     }))
-    chs e)
+
+stopped-pulses : (early : Bool) (chs : List Channel) → every (validPulses early) chs ≡ true → every (validPulses early) (map stopped chs) ≡ true
+stopped-pulses early chs e = every-map (validPulses early) (validPulses early) stopped (λ ch v. no-pulses early (stopped ch) refl) chs e
 
 box-written : (s : State) (b : ℕ) (r : BoxRegister) → Fed s → Fed (boxWritten s b r)
 unfolding boxWritten
 box-written s b Control f =
     choice Fed (bit 6 b) (reset s) _ (λ on. as-at-start (s .start) (s .timer .clock) (s .pin) (f .start))
     (λ off. choice Fed (bit 7 b) _ _
-    (λ on. rebuilt-fed s next (map stopped (s .channels)) kept (rw (standby-kept b ∙ on) (stopped-channels _ (s .channels) (f .channels))) f)
-    (λ off. rebuilt-fed s next (s .channels) kept (rw (standby-kept b ∙ off) (free-channels _ (s .channels) (f .channels))) f))
+    (λ on. rebuilt-fed s next (map stopped (s .channels)) kept (rw (standby-kept b ∙ on) (stopped-channels _ (s .channels) (f .channels))) (stopped-pulses _ (s .channels) (f .pulses)) f)
+    (λ off. rebuilt-fed s next (s .channels) kept (rw (standby-kept b ∙ off) (free-channels _ (s .channels) (f .channels))) (f .pulses) f))
   where
     next : Registers
     next = registers (controlKept b) (s .registers .frequency) (s .registers .mask2) (s .registers .mask1) (s .registers .options)
@@ -269,11 +289,11 @@ box-written s b Options f =
 -- one channel becomes another that is valid where it was
 own-fed : (s : State) (i : ℕ) (next : Channel) → Fed s →
     (let inStandby = standby (s .registers .control) in ChannelParts inStandby (channel s i) → ChannelParts inStandby next) →
+    (let early = endsEarly (s .start .modification) in validPulses early (channel s i) ≡ true → validPulses early next ≡ true) →
     Fed (withChannels s (set (s .channels) i next))
-own-fed s i next f kept =
-    let inStandby = standby (s .registers .control) in
-    let after = valid-of-channel-parts inStandby next (kept (parts-of-channel inStandby (s .channels) i (f .channels))) in
-    rebuilt-fed s (s .registers) _ (f .registers) (every-set (validChannel inStandby) (s .channels) i next after (f .channels)) f
+own-fed s i next f kept counted =
+    rebuilt-fed s (s .registers) _ (f .registers) (channel-set _ (s .channels) i next kept (f .channels))
+    (pulses-set _ (s .channels) i next counted (f .pulses)) f
 
 -- ---- the calls
 
@@ -288,7 +308,7 @@ module _ (s : State) (valid : validOf s ≡ true) where
   written-fed b Absent e = accessed-fed s valid
   written-fed b (ReadOnly r) e = accessed-fed s valid
   written-fed b (Shared r) e = box-written (accessed s) b r (accessed-fed s valid)
-  written-fed b (Own r i) e = own-fed (accessed s) i _ (accessed-fed s valid) (channel-written _ (channel s i) b i r e)
+  written-fed b (Own r i) e = own-fed (accessed s) i _ (accessed-fed s valid) (channel-written _ (channel s i) b i r e) (written-pulses _ (channel s i) b r)
   written-fed b (OwnWord r i low) e = accessed-fed s valid
 
   word-written-fed : (word : ℕ) (p : Place) → Fed (wordWritten (accessed s) word p)
@@ -297,7 +317,7 @@ module _ (s : State) (valid : validOf s ≡ true) where
   word-written-fed word (ReadOnly r) = accessed-fed s valid
   word-written-fed word (Shared r) = accessed-fed s valid
   word-written-fed word (Own r i) = accessed-fed s valid
-  word-written-fed word (OwnWord r i low) = own-fed (accessed s) i _ (accessed-fed s valid) (target-written _ (channel s i) word r)
+  word-written-fed word (OwnWord r i low) = own-fed (accessed s) i _ (accessed-fed s valid) (target-written _ (channel s i) word r) (target-pulses _ (channel s i) word r)
 
   pub write-valid : (a b : ℕ) → validOf (writeOf s a b .state) ≡ true
   unfolding writeOf
@@ -310,7 +330,7 @@ module _ (s : State) (valid : validOf s ≡ true) where
   after-read-valid : (a : ℕ) → validOf (afterRead s a) ≡ true
   after-read-valid a =
       let f = accessed-fed s valid in
-      fed-valid (afterRead s a) (record { registers = f .registers; start = f .start; channels = f .channels; idle = refl; expired = refl })
+      fed-valid (afterRead s a) (record { registers = f .registers; start = f .start; channels = f .channels; pulses = f .pulses; idle = refl; expired = refl })
 
   pub read-valid : (a : ℕ) → validOf (readOf s a .state) ≡ true
   unfolding readOf readAt

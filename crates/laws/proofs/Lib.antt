@@ -7,6 +7,7 @@ pub mod Kept
 pub mod Results
 pub mod FanFail
 pub mod Keep
+pub mod PinSet
 pub mod Targets
 pub mod Promises
 pub mod Duty

@@ -48,12 +48,12 @@ some-fault-ticks : (held : Channel → Bool) (m t : ℕ) (chs : List Channel) �
     some (λ ch. ch .fault) (map (λ ch. channelTicks (held ch) m t ch) chs) ≡ some (λ ch. ch .fault) chs
 some-fault-ticks held m t [] = refl
 some-fault-ticks held m t (ch ∷ chs) =
-    ap₂ (λ a b. a || b) (ap (λ (x : Channel). x .fault) (ticks-move (held ch) m t ch .2)) (some-fault-ticks held m t chs)
+    ap₂ (λ a b. a || b) (ap (λ (x : Channel). x .fault) (ticks-move (held ch) m t ch .3)) (some-fault-ticks held m t chs)
 
 pub overridden-ticks : (k : Conditions) (held : Bool) (m t : ℕ) (ch : Channel) →
     overridden k (channelTicks held m t ch) ≡ overridden k ch
 unfolding overrideBy
-overridden-ticks k held m t ch = rw (ticks-move held m t ch .2) refl
+overridden-ticks k held m t ch = rw (ticks-move held m t ch .3) refl
 
 -- an expired watchdog overrides
 expired-overrides : (k : Conditions) (ch : Channel) → k .expired ≡ true → overridden k ch ≡ true
@@ -101,6 +101,11 @@ module _ (s : State) where
   pub ahead-conditions : (k : ℕ) → conditionsOf (ahead k) ≡ conditionsOf s
   unfolding ahead
   ahead-conditions k = same-conditions k (clockAt (s .timer .clock) k) (idleAt k)
+
+  -- where the watchdog counts, it has counted them
+  pub ahead-idle : (k : ℕ) → counting (ahead k) ≡ true → ahead k .timer .idle ≡ s .timer .idle + k
+  unfolding ahead idleAt
+  ahead-idle k on = rw on refl
 
   timer-step : (k : ℕ) → (counting s ≡ true → s .timer .idle + suc k < idleLimit s) →
       timerTick (watchdogCode (s .registers .control)) (timer (clockAt (s .timer .clock) k) (idleAt k) (s .timer .expired) (s .timer .status))

@@ -24,10 +24,11 @@ map-set f (x ∷ xs) zero y = refl
 map-set f (x ∷ xs) (suc i) y = ap (λ ys. f x ∷ ys) (map-set f xs i y)
 
 -- at start each target is the pin-set one
-pub start-targets : (watchdog spinup target frequency : ℕ) → watchdog < 4 → spinup < 4 → target < 512 →
-    targets (startOf watchdog spinup target frequency .state) ≡ replicate 6 target
+pub start-targets : (watchdog spinup target frequency modification : ℕ) → watchdog < 4 → spinup < 4 → target < 512 → modification < 2 →
+    targets (startOf watchdog spinup target frequency modification .state) ≡ replicate 6 target
 unfolding startOf validStart
-start-targets watchdog spinup target frequency w s t = rw (lt-ltb watchdog 4 w, lt-ltb spinup 4 s, lt-ltb target 512 t) refl
+start-targets watchdog spinup target frequency modification w s t m =
+    rw (lt-ltb watchdog 4 w, lt-ltb spinup 4 s, lt-ltb target 512 t, lt-ltb modification 2 m) refl
 
 -- ---- the places of a word
 

@@ -5,17 +5,17 @@ use mathlib.Core.Bool.{Bool, true, false, not, _||_}
 use mathlib.Core.List.{List}
 use native.Mathlib.Omega.{arith}
 use lib.Dec.{leb, ltb, eqb, lit<}
-use borrow.Author.Tests.{ltb-true, ltb-false, leb-true, leb-false, eqb-true, lt-ltb, le-leb, eq-eqb}
+use borrow.Author.Tests.{ltb-true, ltb-false, leb-true, leb-false, eqb-true, eqb-false, lt-ltb, le-leb, eq-eqb}
 use Rattle.laws.proofs.Types.{Channel, Timer, State, Conditions}
 use Rattle.rules.specs.Basics.{_implies_, every}
 use Rattle.rules.specs.State.{withMotion}
 use Rattle.rules.specs.Registers.{monitorOnly, spinCode, rateCode}
 use Rattle.rules.specs.Time.{watchdogLimit, spinTicks}
 use Rattle.rules.specs.Duty.{conditionsOf, overrideBy}
-use Rattle.rules.specs.Valid.{validMotion, validChannel, validTimer, validOf}
-use Rattle.rules.specs.Tick.{wanted, periodOf, spinUpDue, overridden, timerTick, toward, channelTick, channelsTick, tick, iterate}
-use Rattle.rules.proofs.Tests.{by-test, all-below, every-map}
-use Rattle.laws.proofs.Valid.{parts, valid-of-parts, ChannelParts, channel-parts, valid-of-channel-parts, settings-parts, four, of-four}
+use Rattle.rules.specs.Valid.{validMotion, validChannel, validPulses, validTimer, validOf}
+use Rattle.rules.specs.Tick.{wanted, periodOf, spinUpDue, overridden, timerTick, toward, spinLeft, channelTick, channelsTick, tick, iterate}
+use Rattle.rules.proofs.Tests.{by-test, choice, all-below, every-map}
+use Rattle.laws.proofs.Valid.{parts, valid-of-parts, ChannelParts, channel-parts, valid-of-channel-parts, settings-parts, no-pulses, four, of-four}
 use Rattle.laws.proofs.Ramp.{toward-lt}
 
 -- ---- the timer
@@ -61,8 +61,8 @@ moving still ch e =
       full = λ l. eqb-true _ 511 (rw (lt-ltb 0 (ch .spin) l) at full);
     }
 
-moving-valid : (ch : Channel) (r p : ℕ) → Moving r p → validMotion false (withMotion ch r p) ≡ true
-moving-valid ch r p m =
+moving-valid : (ch : Channel) (r p q : ℕ) → Moving r p → validMotion false (withMotion ch r p q) ≡ true
+moving-valid ch r p q m =
     of-four _ _ _ _ (lt-ltb r 512 (m .low)) (le-leb p 1024 (m .short)) refl
     (by-test (ltb 0 p) (λ e. rw (e, eq-eqb r 511 (m .full (ltb-true 0 p e))) refl) (λ e. rw e refl))
 
@@ -74,10 +74,10 @@ module _ (c : ℕ) (ch : Channel) (parts : ChannelParts false ch) (controlled : 
   unfolding wanted
   target-lt = ltb-true _ 512 (settings-parts ch (parts .settings) .target)
 
-  moved-valid : (r p : ℕ) → Moving r p → validChannel false (withMotion ch r p) ≡ true
-  moved-valid r p m =
-      valid-of-channel-parts false (withMotion ch r p)
-      (record { settings = parts .settings; results = parts .results; motion = rw controlled (moving-valid ch r p m) })
+  moved-valid : (r p q : ℕ) → Moving r p → validChannel false (withMotion ch r p q) ≡ true
+  moved-valid r p q m =
+      valid-of-channel-parts false (withMotion ch r p q)
+      (record { settings = parts .settings; results = parts .results; motion = rw controlled (moving-valid ch r p q m) })
 
   spin-ticks-le : spinTicks (spinCode (ch .config)) ≤ 1024
   unfolding spinTicks
@@ -87,16 +87,16 @@ module _ (c : ℕ) (ch : Channel) (parts : ChannelParts false ch) (controlled : 
   unfolding channelTick
   free-tick-valid =
       by-test (ltb 0 (ch .spin))
-      (λ e. rw e (moved-valid (ch .ramp) (ch .spin - 1)
+      (λ e. rw e (moved-valid (ch .ramp) (ch .spin - 1) _
       (record { low = now .low; short = omega (arith, now .short); full = λ l. now .full (omega arith) })))
       (λ e. let idle : 0 < ch .spin → ⊥ = λ l. omega (arith, ltb-false 0 (ch .spin) e) in
       by-test (spinUpDue ch)
-      (λ d. rw (e, d) (moved-valid 511 (spinTicks (spinCode (ch .config))) (record { low = lit< tt; short = spin-ticks-le; full = λ l. refl })))
+      (λ d. rw (e, d) (moved-valid 511 (spinTicks (spinCode (ch .config))) 0 (record { low = lit< tt; short = spin-ticks-le; full = λ l. refl })))
       (λ d. by-test (eqb (rateCode (ch .dynamics)) 0)
-      (λ r. rw (e, d, r) (moved-valid (wanted ch) (ch .spin)
+      (λ r. rw (e, d, r) (moved-valid (wanted ch) (ch .spin) (ch .pulses)
       (record { low = target-lt; short = now .short; full = λ l. absurd (idle l) })))
       (λ r. by-test (eqb (c % periodOf ch) 0)
-      (λ q. rw (e, d, r, q) (moved-valid (toward (ch .ramp) (wanted ch)) (ch .spin)
+      (λ q. rw (e, d, r, q) (moved-valid (toward (ch .ramp) (wanted ch)) (ch .spin) (ch .pulses)
       (record { low = toward-lt (ch .ramp) (wanted ch) 512 (now .low) target-lt; short = now .short; full = λ l. absurd (idle l) })))
       (λ q. rw (e, d, r, q) (valid-of-channel-parts false ch parts)))))
 
@@ -108,12 +108,41 @@ channel-tick-valid k c ch v =
     (λ o. let b = not-standby k ch o in
     rw (o, b) (free-tick-valid c ch (channel-parts false ch (rw b at v)) (not-monitor k ch o)))
 
+-- ---- its count of pulses
+
+-- of a running spin-up with fewer ticks left
+left-pulses : (early : Bool) (ch : Channel) (left : ℕ) → ltb 0 (ch .spin) ≡ true → validPulses early ch ≡ true →
+    validPulses early (spinLeft ch left) ≡ true
+unfolding validPulses
+left-pulses early ch left runs v =
+    by-test (eqb left 0)
+    (λ z. no-pulses early (spinLeft ch left) (rw z refl))
+    (λ some. let pos : 0 < left = omega (arith, eqb-false left 0 some) in rw (some, lt-ltb 0 left pos) (rw runs at v))
+
+tick-pulses : (early held : Bool) (c : ℕ) (ch : Channel) → validPulses early ch ≡ true → validPulses early (channelTick held c ch) ≡ true
+unfolding validPulses channelTick
+tick-pulses early held c ch v =
+    choice Counted held _ _ (λ _. v) λ _.
+    choice Counted (ltb 0 (ch .spin)) _ _ (λ runs. left-pulses early ch (ch .spin - 1) runs v) λ _.
+    choice Counted (spinUpDue ch) _ _ (λ _. no-pulses early (withMotion ch 511 (spinTicks (spinCode (ch .config))) 0) refl) λ _.
+    choice Counted (eqb (rateCode (ch .dynamics)) 0) _ _ (λ _. v) λ _.
+    choice Counted (eqb (c % periodOf ch) 0) _ _ (λ _. v) (λ _. v)
+  where
+    Counted : Channel → Type 0
+    Counted x = validPulses early x ≡ true
+
 -- ---- the state
 
 channels-tick-valid : (k : Conditions) (c : ℕ) (chs : List Channel) → every (validChannel (k .standby)) chs ≡ true →
     every (validChannel (k .standby)) (channelsTick k c chs) ≡ true
 unfolding channelsTick
 channels-tick-valid k c chs e = every-map (validChannel _) (validChannel _) _ (channel-tick-valid k c) chs e
+
+channels-tick-pulses : (early : Bool) (k : Conditions) (c : ℕ) (chs : List Channel) → every (validPulses early) chs ≡ true →
+    every (validPulses early) (channelsTick k c chs) ≡ true
+unfolding channelsTick
+channels-tick-pulses early k c chs e =
+    every-map (validPulses early) (validPulses early) _ (λ ch. tick-pulses early (overridden k ch) c ch) chs e
 
 pub tick-valid : (s : State) → validOf s ≡ true → validOf (tick s) ≡ true
 unfolding tick conditionsOf
@@ -125,6 +154,7 @@ tick-valid s e =
       start = p .start;
       timer = timer-tick-valid _ (s .timer) (p .timer);
       channels = channels-tick-valid _ _ (s .channels) (p .channels);
+      pulses = channels-tick-pulses _ _ _ (s .channels) (p .pulses);
     })
 
 pub iterate-valid : (n : ℕ) (s : State) → validOf s ≡ true → validOf (iterate n tick s) ≡ true

@@ -23,4 +23,4 @@ pub use Rattle.rules.specs.declared.Speed.{Speed}
 pub use Rattle.rules.specs.declared.Speed.the-variants.{Rpm, Stopped, TooFast, Refused}
 pub use Rattle.rules.specs.declared.ReadingAnswer.{ReadingAnswer}
 pub use Rattle.rules.specs.declared.Call.{Call}
-pub use Rattle.rules.specs.declared.Call.the-variants.{Write, Read, Ticks, Tachometer, Pin, WriteWord}
+pub use Rattle.rules.specs.declared.Call.the-variants.{Write, Read, Ticks, Tachometer, Pin, WriteWord, Pulse}

@@ -1,23 +1,26 @@
 -- A valid state by its parts, and the parts that the calls change.
-use Prim.Native.Nat.{ℕ, _<_}
+use Prim.Native.Nat.{ℕ, _≤_, _<_}
 use mathlib.Core.Path.{_≡_, refl}
 use mathlib.Core.Bool.{Bool, true, false, not, _&&_, _||_}
 use mathlib.Core.List.{List}
-use lib.Dec.{ltb, eqb}
-use lib.ListN.{getD}
-use borrow.Author.Tests.{ltb-true}
+use lib.Dec.{leb, ltb, eqb}
+use lib.ListN.{getD, set}
+use native.Mathlib.Omega.{arith}
+use borrow.Author.Tests.{ltb-true, leb-true, eqb-true, le-leb}
 use Rattle.laws.proofs.Types.{Channel, Registers, StartValues, State}
-use Rattle.rules.specs.Basics.{every}
+use Rattle.rules.specs.Basics.{every, flag}
 use Rattle.rules.specs.State.{blank}
 use Rattle.rules.specs.Registers.{standby, watchdogCode, monitorOnly, targetCount, controlKept, dynamicsKept, maskKept, optionsKept, configRefused}
-use Rattle.rules.specs.Valid.{validSettings, validResults, validMotion, validChannel, validRegisters, validStart, validTimer, validOf}
-use Rattle.rules.proofs.Tests.{and-left, and-right, and-both, every-at}
+use Rattle.rules.specs.Time.{endsEarly}
+use Rattle.rules.specs.Valid.{validSettings, validResults, validMotion, validChannel, validPulses, validRegisters, validStart, validTimer, validOf}
+use Rattle.rules.proofs.Tests.{and-left, and-right, and-both, by-test, every-at, every-set, every-weaker}
 
 pub record Parts (s : State) : Type 0 where
   pub registers : validRegisters (s .registers) ≡ true
   pub start : validStart (s .start) ≡ true
   pub timer : validTimer (watchdogCode (s .registers .control)) (s .timer) ≡ true
   pub channels : every (validChannel (standby (s .registers .control))) (s .channels) ≡ true
+  pub pulses : every (validPulses (endsEarly (s .start .modification))) (s .channels) ≡ true
 
 pub record ChannelParts (inStandby : Bool) (ch : Channel) : Type 0 where
   pub settings : validSettings ch ≡ true
@@ -51,12 +54,14 @@ module _ (s : State) where
   pub parts : validOf s ≡ true → Parts s
   unfolding validOf
   parts e =
-      let t = four (validRegisters (s .registers)) _ _ _ e in
-      record { registers = t .0; start = t .1; timer = t .2; channels = t .3 }
+      let t = four (validRegisters (s .registers)) _ _ _ (and-left _ _ e) in
+      let channels = every (validChannel (standby (s .registers .control))) (s .channels) in
+      let before = validRegisters (s .registers) && validStart (s .start) && validTimer (watchdogCode (s .registers .control)) (s .timer) && channels in
+      record { registers = t .0; start = t .1; timer = t .2; channels = t .3; pulses = and-right before _ e }
 
   pub valid-of-parts : Parts s → validOf s ≡ true
   unfolding validOf
-  valid-of-parts p = of-four _ _ _ _ (p .registers) (p .start) (p .timer) (p .channels)
+  valid-of-parts p = and-both _ _ (of-four _ _ _ _ (p .registers) (p .start) (p .timer) (p .channels)) (p .pulses)
 
 module _ (inStandby : Bool) (ch : Channel) where
   pub channel-parts : validChannel inStandby ch ≡ true → ChannelParts inStandby ch
@@ -75,7 +80,7 @@ module _ (inStandby : Bool) (ch : Channel) where
 
 pub start-target-lt : (v : StartValues) → validStart v ≡ true → v .target < 512
 unfolding validStart
-start-target-lt v e = ltb-true _ 512 (and-right (ltb (v .watchdog) 4 && ltb (v .spinup) 4) _ e)
+start-target-lt v e = ltb-true _ 512 (four (ltb (v .watchdog) 4) _ _ _ e .2)
 
 pub settings-parts : (ch : Channel) → validSettings ch ≡ true → SettingsParts ch
 settings-parts ch e =
@@ -102,3 +107,46 @@ pub parts-of-channel : (inStandby : Bool) (chs : List Channel) (i : ℕ) → eve
     ChannelParts inStandby (getD chs i blank)
 parts-of-channel inStandby chs i e =
     channel-parts inStandby _ (every-at (validChannel inStandby) chs i blank (blank-valid inStandby) e)
+
+-- one of valid channels becomes another that is valid where it was
+pub channel-set : (inStandby : Bool) (chs : List Channel) (i : ℕ) (next : Channel) →
+    (ChannelParts inStandby (getD chs i blank) → ChannelParts inStandby next) →
+    every (validChannel inStandby) chs ≡ true → every (validChannel inStandby) (set chs i next) ≡ true
+channel-set inStandby chs i next kept e =
+    every-set (validChannel inStandby) chs i next (valid-of-channel-parts inStandby next (kept (parts-of-channel inStandby chs i e))) e
+
+-- ---- the counts of pulses
+
+-- none is counted; no more are than ticks are left
+abbrev pub noneCounted : Channel → Bool
+noneCounted ch = eqb (ch .pulses) 0
+
+abbrev pub fewPulses : Channel → Bool
+fewPulses ch = leb (ch .pulses) (ch .spin)
+
+pub no-pulses : (early : Bool) (ch : Channel) → noneCounted ch ≡ true → validPulses early ch ≡ true
+unfolding validPulses
+no-pulses early ch none = le-leb (ch .pulses) _ (omega (arith, eqb-true (ch .pulses) 0 none))
+
+pub none-counted : (early : Bool) (chs : List Channel) → every noneCounted chs ≡ true → every (validPulses early) chs ≡ true
+none-counted early = every-weaker noneCounted (validPulses early) (no-pulses early)
+
+running : (early : Bool) (spin : ℕ) → flag (early && ltb 0 spin) ≤ spin
+running true spin =
+    by-test (ltb 0 spin) (λ e. rw e (omega (arith, ltb-true 0 spin e))) (λ e. rw e (omega arith))
+running false spin = omega arith
+
+pub few-pulses : (s : State) → validOf s ≡ true → every fewPulses (s .channels) ≡ true
+unfolding validPulses
+few-pulses s valid =
+    let early = endsEarly (s .start .modification) in
+    every-weaker (validPulses early) fewPulses
+    (λ ch v. le-leb (ch .pulses) (ch .spin) (omega (arith, leb-true (ch .pulses) _ v, running early (ch .spin))))
+    (s .channels) (parts s valid .pulses)
+
+-- one channel becomes another whose count is valid where it was
+pub pulses-set : (early : Bool) (chs : List Channel) (i : ℕ) (next : Channel) →
+    (validPulses early (getD chs i blank) ≡ true → validPulses early next ≡ true) →
+    every (validPulses early) chs ≡ true → every (validPulses early) (set chs i next) ≡ true
+pulses-set early chs i next kept e =
+    every-set (validPulses early) chs i next (kept (every-at (validPulses early) chs i blank (no-pulses early blank refl) e)) e

@@ -7,7 +7,7 @@ use table::LARGEST;
 use table::put_usage;
 
 fn put_word_count(place: usize, line: u32, out: &mut [u8], at: usize) -> usize
-    ensures { λ r. ⌜ Frame 97 at (now (out .entry)) (now (out .exit)) r ⌝ }
+    ensures { λ r. ⌜ Frame 110 at (now (out .entry)) (now (out .exit)) r ⌝ }
 {
     let expected = put_form(
         b"error: line #: wrong number of words, expected: ",
@@ -25,7 +25,7 @@ fn one_further(most: u32) -> u32 {
 }
 
 fn put_too_large(line: u32, word: u32, most: u32, out: &mut [u8], at: usize) -> usize
-    ensures { λ r. ⌜ Frame 97 at (now (out .entry)) (now (out .exit)) r ⌝ }
+    ensures { λ r. ⌜ Frame 110 at (now (out .entry)) (now (out .exit)) r ⌝ }
 {
     put_form(
         b"error: line #: word # is too large, at most #\n",
@@ -36,7 +36,7 @@ fn put_too_large(line: u32, word: u32, most: u32, out: &mut [u8], at: usize) -> 
 }
 
 fn put_too_small(line: u32, word: u32, most: u32, out: &mut [u8], at: usize) -> usize
-    ensures { λ r. ⌜ Frame 97 at (now (out .entry)) (now (out .exit)) r ⌝ }
+    ensures { λ r. ⌜ Frame 110 at (now (out .entry)) (now (out .exit)) r ⌝ }
 {
     put_form(
         b"error: line #: word # is too small, at least -#\n",
@@ -48,7 +48,7 @@ fn put_too_small(line: u32, word: u32, most: u32, out: &mut [u8], at: usize) -> 
 
 // Why a line, counted from 1, is no call.
 pub fn put_error(reason: Reason, line: u32, out: &mut [u8], at: usize) -> usize
-    ensures { λ r. ⌜ Frame 97 at (now (out .entry)) (now (out .exit)) r ⌝ }
+    ensures { λ r. ⌜ Frame 110 at (now (out .entry)) (now (out .exit)) r ⌝ }
 {
     match reason {
         Reason::UnknownCommand => put_form(b"error: line #: unknown command\n", &[line], out, at),
@@ -72,7 +72,7 @@ pub fn put_error(reason: Reason, line: u32, out: &mut [u8], at: usize) -> usize
             )
         }
         Reason::NoRecord => put_form(
-            b"error: line #: word 2 is no call with a record: write, word, read, ticks, tach or pin\n",
+            b"error: line #: word 2 is no call with a record: write, word, read, ticks, tach, pulse or pin\n",
             &[line],
             out,
             at,

@@ -41,6 +41,7 @@ fn put_record(index: u32, call: Call, out: &mut [u8], at: usize) -> usize
         Call::WriteWord(address, word) => {
             put_form(b"# word # #\n", &[index, address, word as u32], out, at)
         }
+        Call::Pulse(channel) => put_form(b"# pulse #\n", &[index, channel], out, at),
     }
 }
 

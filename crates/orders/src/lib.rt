@@ -34,6 +34,7 @@ fn is_read(call: Call) -> bool
         Call::Tachometer(_, _) => false,
         Call::Pin(_) => false,
         Call::WriteWord(_, _) => false,
+        Call::Pulse(_) => false,
     }
 }
 

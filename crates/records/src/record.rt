@@ -12,6 +12,7 @@ use strings::LONG_FORM;
 use strings::NO_RECORD;
 use strings::NUMBER_TOO_LARGE;
 use strings::PIN;
+use strings::PULSE;
 use strings::Partial;
 use strings::READ;
 use strings::STRING_ENDS;
@@ -77,6 +78,9 @@ fn take_kind(kind: u32) -> Step
     if kind == WRITE_WORD {
         return Step::More(begin(Stage::WordAddress));
     }
+    if kind == PULSE {
+        return Step::More(begin(Stage::PulseChannel));
+    }
     Step::Refused(NO_RECORD)
 }
 
@@ -122,6 +126,7 @@ fn take_number(stage: Stage, number: u32) -> Step
         Stage::PinLevel => take_level(number),
         Stage::WordAddress => Step::More(begin(Stage::WordValue(number))),
         Stage::WordValue(address) => take_word(address, number),
+        Stage::PulseChannel => Step::Whole(Call::Pulse(number)),
     }
 }
 

@@ -1,7 +1,8 @@
 -- What ties the definitions to the paper: words convert without loss, the map carries the listed registers, what writes are refused with,
--- and which results are bad.
+-- which results are bad, which channels there are, and that a count of pulses ends with its spin-up.
 pub mod Tests
 pub mod Words
 pub mod Map
 pub mod Refusals
 pub mod Tachometer
+pub mod Pulses

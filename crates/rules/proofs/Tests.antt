@@ -80,6 +80,13 @@ module _ {A : Type 0} (test : A → Bool) where
   every-replicate zero x h = refl
   every-replicate (suc n) x h = and-both (test x) (every test (replicate n x)) h (every-replicate n x h)
 
+pub every-weaker : {A : Type 0} (test weaker : A → Bool) → ((x : A) → test x ≡ true → weaker x ≡ true) →
+    (xs : List A) → every test xs ≡ true → every weaker xs ≡ true
+every-weaker test weaker h [] e = refl
+every-weaker test weaker h (x ∷ xs) e =
+    and-both (weaker x) (every weaker xs) (h x (and-left (test x) (every test xs) e))
+    (every-weaker test weaker h xs (and-right (test x) (every test xs) e))
+
 pub every-map : {A B : Type 0} (test : A → Bool) (goal : B → Bool) (f : A → B) →
     ((x : A) → test x ≡ true → goal (f x) ≡ true) →
     (xs : List A) → every test xs ≡ true → every goal (map f xs) ≡ true

@@ -1,7 +1,7 @@
 -- What the calls share: the refusal numbers, what is given back, and what an access to a register does besides.
 use Prim.Native.Nat.{ℕ}
-use mathlib.Core.Bool.{false}
-use lib.Dec.{eqb}
+use mathlib.Core.Bool.{Bool, false, _&&_}
+use lib.Dec.{leb, eqb}
 use Rattle.rules.specs.Types.{State, Answer, ReadAnswer}
 use Rattle.rules.specs.Basics.{if_then_else_}
 use Rattle.rules.specs.State.{timer, withTimer}
@@ -35,7 +35,7 @@ noSuchChannel = 5
 abbrev pub speedOutOfRange : ℕ
 speedOutOfRange = 6
 
--- "start: a pin-set value out of range"
+-- "start: a pin-set value out of range"; K7: "7 for another modification"
 abbrev pub startOutOfRange : ℕ
 startOutOfRange = 7
 
@@ -53,6 +53,13 @@ readAnswer refusal byte s = record { refusal = refusal; byte = byte; state = s }
 -- a call that is refused with a number, "state as given", or leaves a state
 abbrev pub unlessRefused : ℕ → State → State → Answer
 unlessRefused refusal s next = if eqb refusal accepted then answer accepted next else answer refusal s
+
+-- refusal 5, K7 too: "5 for the channel". A call of a channel, counted from 1, is refused with it or leaves a state
+abbrev pub isChannel : ℕ → Bool
+isChannel n = leb 1 n && leb n 6
+
+abbrev pub ifChannel : ℕ → State → State → Answer
+ifChannel n s next = if isChannel n then answer accepted next else answer noSuchChannel s
 
 -- "Each accepted read or write sets the idle count to 0 and ends an expiry"
 abbrev pub accessed : State → State

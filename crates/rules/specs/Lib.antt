@@ -19,4 +19,5 @@ pub mod FanFail
 pub mod Speed
 pub mod Reading
 pub mod Pin
+pub mod Pulse
 pub mod Make

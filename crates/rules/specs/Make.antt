@@ -3,7 +3,7 @@ use Prim.Native.Nat.{ℕ}
 use mathlib.Core.Path.{_≡_}
 use mathlib.Core.Bool.{true}
 use mathlib.Core.List.{List, [], _∷_, map}
-use Rattle.rules.specs.Types.{State, Target, Answer, ReadAnswer, Call, Write, Read, Ticks, Tachometer, Pin, WriteWord}
+use Rattle.rules.specs.Types.{State, Target, Answer, ReadAnswer, Call, Write, Read, Ticks, Tachometer, Pin, WriteWord, Pulse}
 use Rattle.rules.specs.Valid.{validOf, ifValid}
 use Rattle.rules.specs.Words.{dutyWord}
 use Rattle.rules.specs.Map.{targetAddress}
@@ -14,6 +14,7 @@ use Rattle.rules.specs.Read.{readOf}
 use Rattle.rules.specs.Tick.{ticksPassed}
 use Rattle.rules.specs.Tachometer.{resultOf}
 use Rattle.rules.specs.Pin.{pinOf}
+use Rattle.rules.specs.Pulse.{pulseOf}
 
 -- a call that reads nothing answers byte 0
 abbrev pub withoutByte : Answer → ReadAnswer
@@ -27,6 +28,7 @@ made s (Ticks n) = withoutByte (ticksPassed s n)
 made s (Tachometer n count) = withoutByte (resultOf s n count)
 made s (Pin high) = withoutByte (pinOf s high)
 made s (WriteWord a word) = withoutByte (writeWordOf s a word)
+made s (Pulse n) = withoutByte (pulseOf s n)
 
 -- a list of calls, "each given the state that the one before left": an answer each, and the state that the last one leaves. A
 -- refused call changes nothing, and the list goes on

@@ -24,6 +24,7 @@ startChannel v =
       fault = false;
       ramp = 0;
       spin = 0;
+      pulses = 0;
     }
 
 -- the state as at start, at a clock and a pin level. 00h 0010 0XX0b with the pin-set code, 01h the pin-set byte,
@@ -45,13 +46,13 @@ zeroState =
       channels = replicate 6 blank;
       registers = registers 0 0 0 0 0;
       pin = false;
-      start = startValues 0 0 0 0;
+      start = startValues 0 0 0 0 0;
       timer = timer 0 0 false false;
     }
 
--- "the pin is high"
-unfoldable pub startOf : ℕ → ℕ → ℕ → ℕ → Answer
-startOf watchdog spinup target frequency =
-    let v = startValues watchdog spinup target frequency in
+-- "the pin is high"; K7: "Start takes the modification"
+unfoldable pub startOf : ℕ → ℕ → ℕ → ℕ → ℕ → Answer
+startOf watchdog spinup target frequency modification =
+    let v = startValues watchdog spinup target frequency modification in
     if validStart v then answer accepted (asAtStart v 0 true)
     else answer startOutOfRange zeroState

@@ -19,6 +19,7 @@ blank =
       fault = false;
       ramp = 0;
       spin = 0;
+      pulses = 0;
     }
 
 -- the channel with index i, which is channel i + 1 of the paper
@@ -32,7 +33,7 @@ results count queue fault = record { count = count; queue = queue; fault = fault
 abbrev pub resultsOf : Channel → Results
 resultsOf ch = results (ch .count) (ch .queue) (ch .fault)
 
--- a channel with other settings; with other results; with another ramp value and spin-up time
+-- a channel with other settings; with other results; with another ramp value, spin-up time and count of pulses; with another ramp value
 abbrev pub withSettings : Channel → ℕ → ℕ → ℕ → ℕ → ℕ → Channel
 withSettings ch config dynamics window target target-count =
     record {
@@ -46,6 +47,7 @@ withSettings ch config dynamics window target target-count =
       fault = ch .fault;
       ramp = ch .ramp;
       spin = ch .spin;
+      pulses = ch .pulses;
     }
 
 abbrev pub withResults : Channel → Results → Channel
@@ -61,10 +63,11 @@ withResults ch r =
       fault = r .fault;
       ramp = ch .ramp;
       spin = ch .spin;
+      pulses = ch .pulses;
     }
 
-abbrev pub withMotion : Channel → ℕ → ℕ → Channel
-withMotion ch ramp spin =
+abbrev pub withMotion : Channel → ℕ → ℕ → ℕ → Channel
+withMotion ch ramp spin pulses =
     record {
       config = ch .config;
       dynamics = ch .dynamics;
@@ -76,7 +79,11 @@ withMotion ch ramp spin =
       fault = ch .fault;
       ramp = ramp;
       spin = spin;
+      pulses = pulses;
     }
+
+abbrev pub withRamp : Channel → ℕ → Channel
+withRamp ch ramp = withMotion ch ramp (ch .spin) (ch .pulses)
 
 -- the registers of the box, in the order of their addresses
 abbrev pub registers : ℕ → ℕ → ℕ → ℕ → ℕ → Registers
@@ -84,9 +91,9 @@ registers control frequency mask2 mask1 options =
     record { control = control; frequency = frequency; mask2 = mask2; mask1 = mask1; options = options }
 
 -- the pin-set values, and the timer
-abbrev pub startValues : ℕ → ℕ → ℕ → ℕ → StartValues
-startValues watchdog spinup target frequency =
-    record { watchdog = watchdog; spinup = spinup; target = target; frequency = frequency }
+abbrev pub startValues : ℕ → ℕ → ℕ → ℕ → ℕ → StartValues
+startValues watchdog spinup target frequency modification =
+    record { watchdog = watchdog; spinup = spinup; target = target; frequency = frequency; modification = modification }
 
 abbrev pub timer : ℕ → ℕ → Bool → Bool → Timer
 timer clock idle expired status = record { clock = clock; idle = idle; expired = expired; status = status }

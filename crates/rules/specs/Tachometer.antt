@@ -10,7 +10,7 @@ use Rattle.rules.specs.State.{channel, results, resultsOf, withResults, 
 use Rattle.rules.specs.Registers.{monitorOnly, tachometerEnabled, queueCode, targetCount}
 use Rattle.rules.specs.Duty.{conditionsOf, outputDuty}
 use Rattle.rules.specs.Valid.{ifValid}
-use Rattle.rules.specs.Calls.{accepted, noSuchChannel, answer}
+use Rattle.rules.specs.Calls.{ifChannel}
 
 -- "the queue length (codes 0 to 3: 1, 2, 4, 6)"
 unfoldable pub queueLength : ℕ → ℕ
@@ -63,10 +63,5 @@ withResult s i count =
     let needed = queueLength (queueCode (s .registers .options)) in
     withChannels s (set (s .channels) i (channelResult (conditionsOf s) needed (channel s i) count))
 
--- refusal 5: "channel not 1 to 6"
-abbrev pub isChannel : ℕ → Bool
-isChannel n = leb 1 n && leb n 6
-
 unfoldable pub resultOf : State → ℕ → ℕ → Answer
-resultOf s n count =
-    ifValid s (if isChannel n then answer accepted (withResult s (n - 1) count) else answer noSuchChannel s)
+resultOf s n count = ifValid s (ifChannel n s (withResult s (n - 1) count))

@@ -5,7 +5,7 @@ use mathlib.Core.List.{List, map}
 use lib.Dec.{leb, ltb, eqb}
 use Rattle.rules.specs.Types.{Channel, Timer, State, Conditions, Override, None, Duty, Answer}
 use Rattle.rules.specs.Basics.{if_then_else_}
-use Rattle.rules.specs.State.{timer, withMotion, withChannels, withTimer}
+use Rattle.rules.specs.State.{timer, withMotion, withRamp, withChannels, withTimer}
 use Rattle.rules.specs.Registers.{spinCode, rateCode, asymmetric, watchdogCode}
 use Rattle.rules.specs.Time.{clockAfter, watchdogLimit, spinTicks, ratePeriod}
 use Rattle.rules.specs.Duty.{conditionsOf, overrideOf}
@@ -52,16 +52,21 @@ toward x goal =
     else if ltb goal x then x - 1
     else x
 
+-- a running spin-up with so many ticks left. K7: the count of pulses is 0 "whenever no spin-up time remains", so what ends one clears it
+abbrev pub spinLeft : Channel → ℕ → Channel
+spinLeft ch left = withMotion ch (ch .ramp) left (if eqb left 0 then 0 else ch .pulses)
+
 -- "3. Each channel by itself. Under an override nothing changes. Else if spin-up runs, its remaining ticks fall by one. Else if
 -- [spin-up is due], spin-up starts: remaining ticks as coded, ramp value 511. Else with rate code 0 the ramp value becomes the
--- target. Else, if the clock is a multiple of the period, the ramp value moves one towards the target"
+-- target. Else, if the clock is a multiple of the period, the ramp value moves one towards the target". K7: "The count of pulses begins anew
+-- with each spin-up"
 unfoldable pub channelTick : Bool → ℕ → Channel → Channel
 channelTick held clock ch =
     if held then ch
-    else if ltb 0 (ch .spin) then withMotion ch (ch .ramp) (ch .spin - 1)
-    else if spinUpDue ch then withMotion ch 511 (spinTicks (spinCode (ch .config)))
-    else if eqb (rateCode (ch .dynamics)) 0 then withMotion ch (wanted ch) (ch .spin)
-    else if eqb (clock % periodOf ch) 0 then withMotion ch (toward (ch .ramp) (wanted ch)) (ch .spin)
+    else if ltb 0 (ch .spin) then spinLeft ch (ch .spin - 1)
+    else if spinUpDue ch then withMotion ch 511 (spinTicks (spinCode (ch .config))) 0
+    else if eqb (rateCode (ch .dynamics)) 0 then withRamp ch (wanted ch)
+    else if eqb (clock % periodOf ch) 0 then withRamp ch (toward (ch .ramp) (wanted ch))
     else ch
 
 -- all of them

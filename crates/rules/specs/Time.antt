@@ -2,6 +2,7 @@
 use Prim.Native.Nat.{ℕ, _+_, _-_, _*_, _%_, _^_}
 use mathlib.Core.Bool.{Bool}
 use mathlib.Core.List.{[], _∷_}
+use lib.Dec.{eqb}
 use lib.ListN.{getD}
 use Rattle.rules.specs.Basics.{if_then_else_}
 
@@ -16,6 +17,10 @@ watchdogLimit code = getD (0 ∷ 2560 ∷ 5120 ∷ 15360 ∷ []) code 0
 -- "Spin-up codes 0 to 3: none, 256, 512, 1,024 ticks"
 unfoldable pub spinTicks : ℕ → ℕ
 spinTicks code = getD (0 ∷ 256 ∷ 512 ∷ 1024 ∷ []) code 0
+
+-- K7: "Boxes of modification A keep 01's whole time; boxes of modification B end early", "A is number 0, B is 1"
+abbrev pub endsEarly : ℕ → Bool
+endsEarly modification = eqb modification 1
 
 -- "Rate code k from 1 to 7: period 2^(k-1) ticks. With asymmetric fall the period of a falling duty is doubled"
 abbrev pub ratePeriod : ℕ → Bool → ℕ

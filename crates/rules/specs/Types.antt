@@ -26,4 +26,4 @@ pub use Rattle.rules.specs.declared.Speed.the-variants.{Rpm, Stopped, To
 pub use Rattle.rules.specs.declared.Reading.{Reading}
 pub use Rattle.rules.specs.declared.ReadingAnswer.{ReadingAnswer}
 pub use Rattle.rules.specs.declared.Call.{Call}
-pub use Rattle.rules.specs.declared.Call.the-variants.{Write, Read, Ticks, Tachometer, Pin, WriteWord}
+pub use Rattle.rules.specs.declared.Call.the-variants.{Write, Read, Ticks, Tachometer, Pin, WriteWord, Pulse}

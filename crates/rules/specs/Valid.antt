@@ -4,9 +4,9 @@ use Prim.Native.Nat.{ℕ}
 use mathlib.Core.Bool.{Bool, not, _&&_, _||_}
 use lib.Dec.{leb, ltb, eqb}
 use Rattle.rules.specs.Types.{Channel, Registers, StartValues, Timer, State, Answer}
-use Rattle.rules.specs.Basics.{if_then_else_, _implies_, every}
+use Rattle.rules.specs.Basics.{if_then_else_, _implies_, every, flag}
 use Rattle.rules.specs.Registers.{standby, watchdogCode, monitorOnly, targetCount, controlKept, dynamicsKept, maskKept, optionsKept, configRefused}
-use Rattle.rules.specs.Time.{watchdogLimit}
+use Rattle.rules.specs.Time.{watchdogLimit, endsEarly}
 use Rattle.rules.specs.Calls.{stateNotValid, answer}
 
 -- "each field is in range, unkept bits are 0, refusal 4's bits are clear": a channel's settings, and its results
@@ -31,6 +31,10 @@ validMotion still ch =
 unfoldable pub validChannel : Bool → Channel → Bool
 validChannel inStandby ch = validSettings ch && validResults ch && validMotion (inStandby || monitorOnly (ch .config)) ch
 
+-- K7, of the count of pulses: "as stored it is 0 or 1, and 0 under A and whenever no spin-up time remains"
+unfoldable pub validPulses : Bool → Channel → Bool
+validPulses early ch = leb (ch .pulses) (flag (early && ltb 0 (ch .spin)))
+
 -- "unkept bits are 0", of the registers of the box
 unfoldable pub validRegisters : Registers → Bool
 validRegisters r =
@@ -39,9 +43,10 @@ validRegisters r =
     && eqb (maskKept (r .mask1)) (r .mask1)
     && eqb (optionsKept (r .options)) (r .options)
 
--- "each field is in range", of the pin-set values: "watchdog code, spin-up code (each 0 to 3), power-on target (0 to 511)"
+-- "each field is in range", of the pin-set values: "watchdog code, spin-up code (each 0 to 3), power-on target (0 to 511)", and K7's
+-- modification, "A is number 0, B is 1"
 unfoldable pub validStart : StartValues → Bool
-validStart v = ltb (v .watchdog) 4 && ltb (v .spinup) 4 && ltb (v .target) 512
+validStart v = ltb (v .watchdog) 4 && ltb (v .spinup) 4 && ltb (v .target) 512 && ltb (v .modification) 2
 
 -- "watchdog off means idle 0 and not expired, and otherwise idle is below the limit and not expired, or at it and expired"
 unfoldable pub validTimer : ℕ → Timer → Bool
@@ -56,6 +61,7 @@ validOf s =
     && validStart (s .start)
     && validTimer (watchdogCode (s .registers .control)) (s .timer)
     && every (validChannel (standby (s .registers .control))) (s .channels)
+    && every (validPulses (endsEarly (s .start .modification))) (s .channels)
 
 -- refusal 1 comes before all others: "state not sound", "state as given"
 abbrev pub ifValid : State → Answer → Answer

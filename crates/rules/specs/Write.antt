@@ -14,9 +14,9 @@ use Rattle.rules.specs.Calls.{accepted, notCarried, readOnly, configNotA
 
 -- ---- a channel's register
 
--- ramp value and spin-up time become 0
+-- ramp value and spin-up time become 0, and so K7's count of pulses
 abbrev pub stopped : Channel → Channel
-stopped ch = withMotion ch 0 0
+stopped ch = withMotion ch 0 0 0
 
 -- "To a fan configuration with bit 4: that channel's ramp value and spin-up time become 0"
 unfoldable pub channelWritten : Channel → ℕ → ChannelRegister → Channel

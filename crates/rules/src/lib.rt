@@ -6,6 +6,8 @@ pub struct Channel {
     pub config: u8,
     pub dynamics: u8,
     pub window: u8,
+    // The pulses counted in a running spin-up, 0 or 1: here, since a channel has 16 bytes with it and would have 18 elsewhere.
+    pub pulses: u8,
     // Target duty (40h to 4Bh), 0 to 511; target count (50h to 5Bh), 0 to 2,047.
     pub target: u16,
     pub target_count: u16,
@@ -40,6 +42,8 @@ pub struct StartValues {
     pub spinup: u8,
     pub target: u16,
     pub frequency: u8,
+    // 0 is A, 1 is B.
+    pub modification: u8,
 }
 
 // What a tick moves besides the channels: the clock and the watchdog.
@@ -164,6 +168,8 @@ pub enum Call {
     Pin(bool),
     // The address and the word.
     WriteWord(u32, u16),
+    // The channel, counted from 1, whose tachometer gave a pulse.
+    Pulse(u32),
 }
 
 // What a FAN_FAIL query gives back: whether it is asserted, how many unmasked channels have failed, and the lowest of

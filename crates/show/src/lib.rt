@@ -1,5 +1,6 @@
 // `show`: the state for a person to read. Each text promises a frame: what stands before it stays, and how long it is at most.
 ghost use Rattle.text.specs.Frame.{Frame};
+use device::codes::ends_early;
 use device::codes::watchdog_limit;
 use device::duty::conditions;
 use device::duty::output_duty;
@@ -105,6 +106,27 @@ fn put_pins(state: State, standby: bool, out: &mut [u8], at: usize) -> usize
     )
 }
 
+// Of which modification the box is. `load` can give it any number.
+fn put_modification(modification: u8, out: &mut [u8], at: usize) -> usize
+    ensures { λ r. ⌜ Frame 77 at (now (out .entry)) (now (out .exit)) r ⌝ }
+{
+    if 1 < modification {
+        return put_form(
+            b"box       modification #: neither A, which is 0, nor B, which is 1\n",
+            &[modification as u32],
+            out,
+            at,
+        );
+    }
+    put_either(
+        ends_early(modification),
+        b"box       modification B: spin-up ends with the second pulse\n",
+        b"box       modification A: spin-up lasts its whole time\n",
+        out,
+        at,
+    )
+}
+
 // Why there is no speed: the tachometer is off, or else what the calculation answered.
 fn put_no_speed(enabled: bool, why: &[u8; 10], out: &mut [u8], at: usize) -> usize
     ensures { λ r. ⌜ Frame 10 at (now (out .entry)) (now (out .exit)) r ⌝ }
@@ -135,11 +157,11 @@ fn percent_tenths(duty: u16) -> u32 {
 }
 
 fn put_duties(number: u32, channel: Channel, duty: u16, out: &mut [u8], at: usize) -> usize
-    ensures { λ r. ⌜ Frame 115 at (now (out .entry)) (now (out .exit)) r ⌝ }
+    ensures { λ r. ⌜ Frame 112 at (now (out .entry)) (now (out .exit)) r ⌝ }
 {
     let tenths = percent_tenths(duty);
     put_form(
-        b"      #   ##### #####   ##### #####.#%  #####",
+        b"      #  ##### #####  ##### #####.#% #####",
         &[
             number,
             channel.target as u32,
@@ -154,6 +176,26 @@ fn put_duties(number: u32, channel: Channel, duty: u16, out: &mut [u8], at: usiz
     )
 }
 
+// The queue count and the fault bit.
+fn put_queue(queue: u8, fault: bool, out: &mut [u8], at: usize) -> usize
+    ensures { λ r. ⌜ Frame 22 at (now (out .entry)) (now (out .exit)) r ⌝ }
+{
+    if fault {
+        return put_form(b"   ### yes  ", &[queue as u32], out, at);
+    }
+    put_form(b"   ### no   ", &[queue as u32], out, at)
+}
+
+// The remaining ticks of a spin-up and the pulses counted in it, where one runs.
+fn put_spin_up(spin: u16, pulses: u8, out: &mut [u8], at: usize) -> usize
+    ensures { λ r. ⌜ Frame 36 at (now (out .entry)) (now (out .exit)) r ⌝ }
+{
+    if spin == 0 {
+        return put_text(b"       -      -\n", out, at);
+    }
+    put_form(b"   #####    ###\n", &[spin as u32, pulses as u32], out, at)
+}
+
 fn put_channel(
     number: u32,
     conditions: Conditions,
@@ -161,22 +203,22 @@ fn put_channel(
     out: &mut [u8],
     at: usize,
 ) -> usize
-    ensures { λ r. ⌜ Frame 158 at (now (out .entry)) (now (out .exit)) r ⌝ }
+    ensures { λ r. ⌜ Frame 190 at (now (out .entry)) (now (out .exit)) r ⌝ }
 {
     let duty = output_duty(conditions, channel);
     let duties = put_duties(number, channel, duty, out, at);
     let speed = put_speed(channel, out, duties);
-    let queue = put_form(b"    ###", &[channel.queue as u32], out, speed);
-    put_either(channel.fault, b"  yes\n", b"  no\n", out, queue)
+    let queue = put_queue(channel.queue, channel.fault, out, speed);
+    put_spin_up(channel.spin, channel.pulses, out, queue)
 }
 
 fn put_channels(state: State, out: &mut [u8], at: usize) -> usize
-    ensures { λ r. ⌜ Frame 1071 at (now (out .entry)) (now (out .exit)) r ⌝ }
+    ensures { λ r. ⌜ Frame 1299 at (now (out .entry)) (now (out .exit)) r ⌝ }
 {
     let conditions = conditions(state);
     let channels = state.channels;
     let mut next = put_text(
-        b"channels, with the speed at two pulses a revolution:\nchannel  target  ramp  output  percent  count       rpm  queue  fault\n",
+        b"channels, with the speed at two pulses a revolution and spin-up in ticks left:\nchannel target  ramp output  percent count       rpm queue fault spin-up pulses\n",
         out,
         at,
     );
@@ -187,12 +229,13 @@ fn put_channels(state: State, out: &mut [u8], at: usize) -> usize
     next
 }
 
-// The whole state: the timer, the pins, and a table of the channels.
+// The whole state: the timer, the pins, the modification, and a table of the channels.
 pub fn put_show(state: State, out: &mut [u8], at: usize) -> usize
-    ensures { λ r. ⌜ Frame 1343 at (now (out .entry)) (now (out .exit)) r ⌝ }
+    ensures { λ r. ⌜ Frame 1648 at (now (out .entry)) (now (out .exit)) r ⌝ }
 {
     let conditions = conditions(state);
     let timer = put_timer(state, out, at);
     let pins = put_pins(state, conditions.standby, out, timer);
-    put_channels(state, out, pins)
+    let modification = put_modification(state.start.modification, out, pins);
+    put_channels(state, out, modification)
 }

@@ -26,6 +26,7 @@ fn zero_state() -> State
         fault: false,
         ramp: 0,
         spin: 0,
+        pulses: 0,
     };
     let channels = [channel; 6];
     State {
@@ -43,6 +44,7 @@ fn zero_state() -> State
             spinup: 0,
             target: 0,
             frequency: 0,
+            modification: 0,
         },
         timer: Timer {
             clock: 0,
@@ -54,8 +56,8 @@ fn zero_state() -> State
 }
 
 // The state of a box that has just been powered on, with the values that its pins set.
-pub fn start(watchdog: u32, spinup: u32, target: u32, frequency: u8) -> Answer
-    ensures { λ r. ⌜ r ≡ startOf watchdog spinup target frequency ⌝ }
+pub fn start(watchdog: u32, spinup: u32, target: u32, frequency: u8, modification: u32) -> Answer
+    ensures { λ r. ⌜ r ≡ startOf watchdog spinup target frequency modification ⌝ }
 {
     if 4 <= watchdog {
         return answered(START_OUT_OF_RANGE, zero_state());
@@ -66,11 +68,15 @@ pub fn start(watchdog: u32, spinup: u32, target: u32, frequency: u8) -> Answer
     if 512 <= target {
         return answered(START_OUT_OF_RANGE, zero_state());
     }
+    if 2 <= modification {
+        return answered(START_OUT_OF_RANGE, zero_state());
+    }
     let start = StartValues {
         watchdog: watchdog as u8,
         spinup: spinup as u8,
         target: target as u16,
         frequency: frequency,
+        modification: modification as u8,
     };
     answered(ACCEPTED, as_at_start(start, 0, true))
 }

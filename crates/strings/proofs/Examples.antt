@@ -9,7 +9,7 @@ use Rattle.rules.specs.State.{timer, withTimer}
 use Rattle.rules.specs.Calls.{accepted, stateNotValid, notCarried}
 use Rattle.rules.specs.Map.{settingAt, placeAt}
 use Rattle.rules.specs.Time.{watchdogLimit}
-use Rattle.rules.specs.Valid.{validChannel, validRegisters, validStart, validTimer, validOf}
+use Rattle.rules.specs.Valid.{validChannel, validPulses, validRegisters, validStart, validTimer, validOf}
 use Rattle.rules.specs.Start.{zeroState}
 use Rattle.rules.specs.Write.{writeRefusal, written, boxWritten, writeOf}
 use Rattle.rules.specs.Read.{placeByte, boxByte, readAt, readOf}
@@ -40,14 +40,15 @@ refused-examples = refl
 -- ---- both ways
 
 -- numbers of one, two and five bytes; a record of 32-bit numbers, which is read back and judged; one that is taken, and what follows it;
--- the longest word
+-- the longest word; a pulse on a channel that its call will refuse
 pub trip-examples : (map numberBytes (127 ∷ 300 ∷ 4294967295 ∷ []) ≡ (0x7F ∷ []) ∷ (0xAC ∷ 0x02 ∷ []) ∷ (0xFF ∷ 0xFF ∷ 0xFF ∷ 0xFF ∷ 0x0F ∷ []) ∷ [])
     × ((below (2 ^ 32) (numbersOf (Write 4294967295 256)) ≡ true) × (frontOf (encoded (Write 4294967295 256)) ≡ refused noRecord))
     × (let string = encoded (Write 300 255) ++ (0x05 ∷ []) in
     (below 256 string ≡ true) × (frontOf string ≡ whole (call.Write 300 255) (0x05 ∷ [])))
     × (frontOf (encoded (WriteWord 0x40 65535)) ≡ whole (call.WriteWord 0x40 65535) [])
+    × (frontOf (0x06 ∷ 0xAC ∷ 0x02 ∷ []) ≡ whole (call.Pulse 300) [])
 unfolding numberBytes bytesWithin encoded numbersBytes frontOf recordFrom stepOf groupOf numberOf kindOf
-trip-examples = (refl, (refl, refl), (refl, refl), refl)
+trip-examples = (refl, (refl, refl), (refl, refl), refl, refl)
 
 -- ---- the run
 
@@ -64,11 +65,11 @@ pub run-example : (validOf zeroState ≡ true) × (length fourRecords ≤ length
     × (let r = runOf zeroState fourRecords 9 (sevens 10) in
     (r .answer .refusal ≡ notCarried) × (r .answer .taken ≡ 2) × (r .answer .answered ≡ 1) × (r .buffer ≡ 0xA5 ∷ sevens 9))
     × (runOf zeroState fourRecords 1 (sevens 10) .answer .refusal ≡ accepted)
-unfolding runOf runOn frontOf recordFrom stepOf groupOf numberOf kindOf made writeOf writeRefusal written boxWritten readOf readAt placeByte boxByte placeAt settingAt validOf validRegisters validStart validTimer validChannel watchdogLimit
+unfolding runOf runOn frontOf recordFrom stepOf groupOf numberOf kindOf made writeOf writeRefusal written boxWritten readOf readAt placeByte boxByte placeAt settingAt validOf validRegisters validStart validTimer validChannel validPulses watchdogLimit
 run-example = (refl, omega arith, (refl, refl, refl, refl), refl)
 
 -- a buffer short by one; a state with the watchdog off and an idle count
 pub nothing-done-examples : (length (sevens 9) < length fourRecords) × (runOf zeroState fourRecords 0 (sevens 9) .answer .refusal ≡ answersTooShort)
     × (let s = withTimer zeroState (timer 0 1 false false) in (validOf s ≡ false) × (runOf s [] 0 [] .answer .refusal ≡ stateNotValid))
-unfolding runOf validOf validRegisters validStart validTimer validChannel watchdogLimit
+unfolding runOf validOf validRegisters validStart validTimer validChannel validPulses watchdogLimit
 nothing-done-examples = (omega arith, refl, (refl, refl))

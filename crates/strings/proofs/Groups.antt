@@ -9,7 +9,7 @@ use lib.Arith.{digits-lt}
 use lib.Pow.{pow-add, pow-mono}
 use borrow.Author.Tests.{lt-ltb, le-ltb, ne-eqb, ltb-true, ltb-false, eqb-true, eqb-false}
 use Rattle.rules.proofs.Tests.{by-test, choice}
-use Rattle.strings.specs.Types.{Group, Stage, Kind, WriteAddress, WriteByte, ReadAddress, TickCount, ResultChannel, ResultCount, PinLevel, WordAddress, WordValue, Partial, Step}
+use Rattle.strings.specs.Types.{Group, Stage, Kind, WriteAddress, WriteByte, ReadAddress, TickCount, ResultChannel, ResultCount, PinLevel, WordAddress, WordValue, PulseChannel, Partial, Step}
 use Rattle.strings.specs.declared.Group.the-variants as group
 use Rattle.strings.specs.declared.Step.the-variants.{More, Whole, Refused}
 use Rattle.strings.specs.Number.{groupOf}
@@ -106,6 +106,7 @@ number-kept (ResultCount channel) n = tt
 number-kept PinLevel n = choice StepKept (ltb n 2) _ _ (λ _. tt) (λ _. tt)
 number-kept WordAddress n = begun-half _
 number-kept (WordValue address) n = choice StepKept (ltb n 65536) _ _ (λ _. tt) (λ _. tt)
+number-kept PulseChannel n = tt
 
 pub step-kept : (p : Partial) (byte : ℕ) → HalfRead p → StepKept (stepOf p byte)
 unfolding stepOf

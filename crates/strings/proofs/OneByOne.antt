@@ -15,8 +15,9 @@ use Rattle.rules.specs.Read.{readOf}
 use Rattle.rules.specs.Tick.{ticksPassed}
 use Rattle.rules.specs.Tachometer.{resultOf}
 use Rattle.rules.specs.Pin.{pinOf}
+use Rattle.rules.specs.Pulse.{pulseOf}
 use Rattle.rules.specs.Make.{made, madeEach, afterEach}
-use Rattle.rules.specs.declared.Call.the-variants.{Write, Read, Ticks, Tachometer, Pin, WriteWord}
+use Rattle.rules.specs.declared.Call.the-variants.{Write, Read, Ticks, Tachometer, Pin, WriteWord, Pulse}
 use Rattle.rules.proofs.Tests.{by-test}
 use Rattle.strings.specs.Types.{State, Call}
 use Rattle.strings.specs.String.{Front, whole, end, refused, frontOf}
@@ -55,13 +56,14 @@ run-in-turn (suc n) s string = by (λ t rest. run-in-turn n t rest) (frontOf str
 -- ---- a state that is not valid: each call is refused with 1
 
 not-valid-made : (s : State) (call : Call) → validOf s ≡ false → made s call ≡ readAnswer stateNotValid 0 s
-unfolding made writeOf writeWordOf readOf ticksPassed resultOf pinOf
+unfolding made writeOf writeWordOf readOf ticksPassed resultOf pinOf pulseOf
 not-valid-made s (Write address byte) v = rw v refl
 not-valid-made s (Read address) v = rw v refl
 not-valid-made s (Ticks n) v = rw v refl
 not-valid-made s (Tachometer channel count) v = rw v refl
 not-valid-made s (Pin high) v = rw v refl
 not-valid-made s (WriteWord address word) v = rw v refl
+not-valid-made s (Pulse channel) v = rw v refl
 
 none-accepted : (s : State) (calls : List Call) → validOf s ≡ false → acceptedFirst (madeEach s calls) ≡ 0
 unfolding madeEach acceptedFirst

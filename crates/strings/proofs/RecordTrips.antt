@@ -10,12 +10,12 @@ use borrow.Author.Tests.{lt-ltb, ltb-true, eqb-true, eqb-false}
 use Rattle.rules.specs.Basics.{if_then_else_, flag}
 use Rattle.rules.specs.declared.Call.the-variants as call
 use Rattle.rules.proofs.Tests.{choice, and-left, and-right}
-use Rattle.strings.specs.Types.{Call, Group, Stage, Kind, WriteAddress, WriteByte, ReadAddress, TickCount, ResultChannel, ResultCount, PinLevel, WordAddress, WordValue, Partial, Step, Order}
+use Rattle.strings.specs.Types.{Call, Group, Stage, Kind, WriteAddress, WriteByte, ReadAddress, TickCount, ResultChannel, ResultCount, PinLevel, WordAddress, WordValue, PulseChannel, Partial, Step, Order}
 use Rattle.strings.specs.declared.Group.the-variants as group
 use Rattle.strings.specs.declared.Step.the-variants.{More, Whole, Refused}
-use Rattle.strings.specs.declared.Order.the-variants.{Write, Read, Ticks, Tachometer, Pin, WriteWord}
+use Rattle.strings.specs.declared.Order.the-variants.{Write, Read, Ticks, Tachometer, Pin, WriteWord, Pulse}
 use Rattle.strings.specs.Number.{groupOf}
-use Rattle.strings.specs.Record.{writeKind, readKind, ticksKind, tachometerKind, pinKind, writeWordKind, begun, blank, kindOf, numberOf, groupTaken, stepOf}
+use Rattle.strings.specs.Record.{writeKind, readKind, ticksKind, tachometerKind, pinKind, writeWordKind, pulseKind, begun, blank, kindOf, numberOf, groupTaken, stepOf}
 use Rattle.strings.specs.String.{Front, whole, end, refused, stepped, recordFrom, frontOf}
 use Rattle.strings.specs.Encode.{bytesWithin, numberBytes, numbersBytes, numbersOf, encoded, orderOf}
 use Rattle.strings.specs.Trips.{Number, number, noNumber, grouped, numberFrom, numberIn, below, frontBy, isHeld, RoundTrips}
@@ -101,6 +101,8 @@ module _ (rest : List ℕ) where
       let v = and-left (ltb word (2 ^ 32)) true (and-right (ltb address (2 ^ 32)) _ h) in
       front-taken writeWordKind (address ∷ word ∷ []) ∙ numbers-taken Kind writeWordKind (address ∷ word ∷ []) refl ∙ numbers-taken WordAddress address (word ∷ []) a ∙
       numbers-taken (WordValue address) word [] v ∙ judged (ltb word 65536) _ _ _
+  order-written (Pulse channel) h =
+      front-taken pulseKind (channel ∷ []) ∙ numbers-taken Kind pulseKind (channel ∷ []) refl ∙ numbers-taken PulseChannel channel [] (and-left (ltb channel (2 ^ 32)) true h)
 
   -- a byte and a word are below 2 ^ 32 too
   small-too : (limit n : ℕ) → limit ≤ 65536 → ltb n limit ≡ true → ltb n (2 ^ 32) ≡ true
@@ -121,6 +123,7 @@ module _ (rest : List ℕ) where
   call-written (call.WriteWord address word) h =
       let small = and-right (ltb address (2 ^ 32)) (ltb word 65536) h in
       order-written (WriteWord address word) (rw (and-left (ltb address (2 ^ 32)) (ltb word 65536) h, small-too 65536 word (omega arith) small) refl) ∙ rw small refl
+  call-written (call.Pulse channel) h = order-written (Pulse channel) (rw h refl)
 
 -- ---- read, and what was read is what is written
 
@@ -146,6 +149,7 @@ number-has (ResultCount channel) n = refl
 number-has PinLevel n = choice (Has (pinKind ∷ n ∷ [])) (ltb n 2) _ _ (λ h. rw (level-is n h) refl) (λ _. tt)
 number-has WordAddress n = (refl, refl)
 number-has (WordValue address) n = choice (Has (writeWordKind ∷ address ∷ n ∷ [])) (ltb n 65536) _ _ (λ _. refl) (λ _. tt)
+number-has PulseChannel n = refl
 
 numbers-append : (a b : List ℕ) (rest : List ℕ) → numbersBytes (a ++ b) ++ rest ≡ numbersBytes a ++ (numbersBytes b ++ rest)
 unfolding numbersBytes

@@ -6,9 +6,9 @@ use lib.Dec.{eqb}
 use borrow.Author.Tests.{eqb-true}
 use Rattle.rules.specs.Basics.{if_then_else_}
 use Rattle.rules.proofs.Tests.{choice}
-use Rattle.strings.specs.Types.{Stage, Kind, WriteAddress, WriteByte, ReadAddress, TickCount, ResultChannel, ResultCount, PinLevel, WordAddress, WordValue, Step}
+use Rattle.strings.specs.Types.{Stage, Kind, WriteAddress, WriteByte, ReadAddress, TickCount, ResultChannel, ResultCount, PinLevel, WordAddress, WordValue, PulseChannel, Step}
 use Rattle.strings.specs.declared.Step.the-variants.{More, Refused}
-use Rattle.strings.specs.Record.{noRecord, writeKind, readKind, ticksKind, tachometerKind, pinKind, writeWordKind, begun, kindOf}
+use Rattle.strings.specs.Record.{noRecord, writeKind, readKind, ticksKind, tachometerKind, pinKind, writeWordKind, pulseKind, begun, kindOf}
 
 -- the numbers of a record that were read before a stage
 abbrev pub earlier : Stage → List ℕ
@@ -22,6 +22,7 @@ earlier (ResultCount channel) = tachometerKind ∷ channel ∷ []
 earlier PinLevel = pinKind ∷ []
 earlier WordAddress = writeWordKind ∷ []
 earlier (WordValue address) = writeWordKind ∷ address ∷ []
+earlier PulseChannel = pulseKind ∷ []
 
 -- what holds of the stage after each kind, and of 13, holds of whatever a number makes as a kind
 module _ (P : Step → Type 0) (n : ℕ) (known : (stage : Stage) → earlier stage ≡ n ∷ [] → P (More (begun stage))) (unknown : P (Refused noRecord)) where
@@ -37,4 +38,5 @@ module _ (P : Step → Type 0) (n : ℕ) (known : (stage : Stage) → earlier st
       (is-or ticksKind TickCount refl _
       (is-or tachometerKind ResultChannel refl _
       (is-or pinKind PinLevel refl _
-      (is-or writeWordKind WordAddress refl _ unknown)))))
+      (is-or writeWordKind WordAddress refl _
+      (is-or pulseKind PulseChannel refl _ unknown))))))

@@ -5,8 +5,8 @@ use lib.Dec.{ltb}
 use Rattle.rules.specs.Basics.{if_then_else_, flag}
 use Rattle.rules.specs.declared.Call.the-variants as call
 use Rattle.strings.specs.Types.{Call, Order}
-use Rattle.strings.specs.declared.Order.the-variants.{Write, Read, Ticks, Tachometer, Pin, WriteWord}
-use Rattle.strings.specs.Record.{writeKind, readKind, ticksKind, tachometerKind, pinKind, writeWordKind}
+use Rattle.strings.specs.declared.Order.the-variants.{Write, Read, Ticks, Tachometer, Pin, WriteWord, Pulse}
+use Rattle.strings.specs.Record.{writeKind, readKind, ticksKind, tachometerKind, pinKind, writeWordKind, pulseKind}
 
 -- the bytes of a number, where there is room for so many
 unfoldable pub bytesWithin : ℕ → ℕ → List ℕ
@@ -29,6 +29,7 @@ numbersOf (Ticks n) = ticksKind ∷ n ∷ []
 numbersOf (Tachometer channel count) = tachometerKind ∷ channel ∷ count ∷ []
 numbersOf (Pin level) = pinKind ∷ level ∷ []
 numbersOf (WriteWord address word) = writeWordKind ∷ address ∷ word ∷ []
+numbersOf (Pulse channel) = pulseKind ∷ channel ∷ []
 
 unfoldable pub encoded : Order → List ℕ
 encoded order = numbersBytes (numbersOf order)
@@ -41,3 +42,4 @@ orderOf (call.Ticks n) = Ticks n
 orderOf (call.Tachometer channel count) = Tachometer channel count
 orderOf (call.Pin high) = Pin (flag high)
 orderOf (call.WriteWord address word) = WriteWord address word
+orderOf (call.Pulse channel) = Pulse channel

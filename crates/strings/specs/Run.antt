@@ -9,7 +9,7 @@ use Rattle.rules.specs.Calls.{accepted, stateNotValid}
 use Rattle.rules.specs.Valid.{validOf}
 use Rattle.rules.specs.Make.{made}
 use Rattle.strings.specs.String.{Front, whole, end, refused, frontOf}
-use Rattle.rules.specs.declared.Call.the-variants.{Write, Read, Ticks, Tachometer, Pin, WriteWord}
+use Rattle.rules.specs.declared.Call.the-variants.{Write, Read, Ticks, Tachometer, Pin, WriteWord, Pulse}
 use Rattle.strings.specs.Types.{State, ReadAnswer, Call, RunAnswer}
 
 -- "15 answer buffer shorter than the string, nothing done"
@@ -40,6 +40,7 @@ isRead (Ticks n) = false
 isRead (Tachometer channel count) = false
 isRead (Pin high) = false
 isRead (WriteWord address word) = false
+isRead (Pulse channel) = false
 
 -- the answer bytes of a call that was accepted
 abbrev pub answerBytes : Call → ReadAnswer → List ℕ

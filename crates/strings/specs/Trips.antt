@@ -9,7 +9,7 @@ use Rattle.rules.specs.Basics.{if_then_else_, every}
 use Rattle.rules.specs.declared.Call.the-variants as call
 use Rattle.strings.specs.Types.{Call, Group, Order}
 use Rattle.strings.specs.declared.Group.the-variants.{More, Last, Refused}
-use Rattle.strings.specs.declared.Order.the-variants.{Write, Read, Ticks, Tachometer, Pin, WriteWord}
+use Rattle.strings.specs.declared.Order.the-variants.{Write, Read, Ticks, Tachometer, Pin, WriteWord, Pulse}
 use Rattle.strings.specs.Number.{stringEnds, groupOf}
 use Rattle.strings.specs.Record.{noRecord}
 use Rattle.strings.specs.String.{Front, whole, refused, frontOf}
@@ -47,6 +47,7 @@ frontBy (Ticks n) rest = whole (call.Ticks n) rest
 frontBy (Tachometer channel count) rest = whole (call.Tachometer channel count) rest
 frontBy (Pin level) rest = if ltb level 2 then whole (call.Pin (eqb level 1)) rest else refused noRecord
 frontBy (WriteWord address word) rest = if ltb word 65536 then whole (call.WriteWord address word) rest else refused noRecord
+frontBy (Pulse channel) rest = whole (call.Pulse channel) rest
 
 -- what the types of a call hold by themselves: numbers of 32 bits, a byte, and a word
 abbrev pub isHeld : Call → Bool
@@ -56,6 +57,7 @@ isHeld (call.Ticks n) = ltb n (2 ^ 32)
 isHeld (call.Tachometer channel count) = ltb channel (2 ^ 32) && ltb count (2 ^ 32)
 isHeld (call.Pin high) = true
 isHeld (call.WriteWord address word) = ltb address (2 ^ 32) && ltb word 65536
+isHeld (call.Pulse channel) = ltb channel (2 ^ 32)
 
 -- ---- both ways
 

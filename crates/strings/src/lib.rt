@@ -27,6 +27,8 @@ pub const PIN: u32 = 4;
 
 pub const WRITE_WORD: u32 = 5;
 
+pub const PULSE: u32 = 6;
+
 // What a byte makes of a number: what its groups are worth so far, with more to come or as the last; or a refusal.
 pub enum Group {
     More(u32),
@@ -46,6 +48,7 @@ pub enum Stage {
     PinLevel,
     WordAddress,
     WordValue(u32),
+    PulseChannel,
 }
 
 // What has been read of a record: the stage, and of its number so many groups, and what they are worth.
@@ -83,6 +86,8 @@ pub enum Order {
     Pin(u32),
     // The address and the word.
     WriteWord(u32, u32),
+    // The channel.
+    Pulse(u32),
 }
 
 // What a run gives back, besides the answers in their buffer: how many records it took, and how many answer bytes there are.

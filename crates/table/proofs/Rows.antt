@@ -15,7 +15,7 @@ use Rattle.text.specs.Put.{Put}
 use Rattle.table.specs.declared.Command.{Command}
 use Rattle.table.specs.declared.Found.{Found}
 use Rattle.image.specs.Image.{channelsLimits, limits, numberCount}
-use Rattle.table.specs.Table.{Row, callRows, stateRows, stringRows, galleyRows, commands, stateNumbers, nameOf, sameBytes, Named, known, unknown, namedAmong, usageAt}
+use Rattle.table.specs.Table.{Row, accessRows, eventRows, stateRows, stringRows, galleyRows, commands, stateNumbers, nameOf, sameBytes, Named, known, unknown, namedAmong, usageAt}
 use Rattle.table.specs.Rows.{RowAt, Is, Describe, FoundAs}
 
 -- the row at an index, in both
@@ -42,29 +42,35 @@ module _ (rows others : List Row) {command : Command} {place : ℕ} where
 
 -- the rows of each part, at the places from the part's first on
 module _ (source : List Command) (d : Command) (place : ℕ) where
-  pub call-row : Describe source callRows → place < length callRows → RowAt (getD source place d) commands place
+  pub access-row : Describe source accessRows → place < length accessRows → RowAt (getD source place d) commands place
   unfolding commands
-  call-row e h = in-first callRows (stateRows ++ (stringRows ++ galleyRows)) h (row-at source callRows e place h d)
+  access-row e h = in-first accessRows (eventRows ++ (stateRows ++ (stringRows ++ galleyRows))) h (row-at source accessRows e place h d)
 
   module _ (rows part others : List Row) (e : Describe source part) (from : length rows ≤ place) where
     part-row : place < length rows + length part → RowAt (getD source (place - length rows) d) (rows ++ (part ++ others)) place
     part-row h =
         in-second rows (part ++ others) from (in-first part others (omega arith) (row-at source part e (place - length rows) (omega arith) d))
 
-  pub state-row : Describe source stateRows → length callRows ≤ place → place < length (callRows ++ stateRows) →
-      RowAt (getD source (place - length callRows) d) commands place
+  pub event-row : Describe source eventRows → length accessRows ≤ place → place < length (accessRows ++ eventRows) →
+      RowAt (getD source (place - length accessRows) d) commands place
   unfolding commands
-  state-row e from h = part-row callRows stateRows (stringRows ++ galleyRows) e from h
+  event-row e from h = part-row accessRows eventRows (stateRows ++ (stringRows ++ galleyRows)) e from h
 
-  pub string-row : Describe source stringRows → length (callRows ++ stateRows) ≤ place →
-      place < length (callRows ++ (stateRows ++ stringRows)) → RowAt (getD source (place - length (callRows ++ stateRows)) d) commands place
+  pub state-row : Describe source stateRows → length (accessRows ++ eventRows) ≤ place → place < length (accessRows ++ (eventRows ++ stateRows)) →
+      RowAt (getD source (place - length (accessRows ++ eventRows)) d) commands place
   unfolding commands
-  string-row e from h = part-row (callRows ++ stateRows) stringRows galleyRows e from h
+  state-row e from h = part-row (accessRows ++ eventRows) stateRows (stringRows ++ galleyRows) e from h
 
-  pub galley-row : Describe source galleyRows → length (callRows ++ (stateRows ++ stringRows)) ≤ place → place < length commands →
-      RowAt (getD source (place - length (callRows ++ (stateRows ++ stringRows))) d) commands place
+  pub string-row : Describe source stringRows → length (accessRows ++ (eventRows ++ stateRows)) ≤ place →
+      place < length (accessRows ++ (eventRows ++ (stateRows ++ stringRows))) →
+      RowAt (getD source (place - length (accessRows ++ (eventRows ++ stateRows))) d) commands place
   unfolding commands
-  galley-row e from h = part-row (callRows ++ (stateRows ++ stringRows)) galleyRows [] e from h
+  string-row e from h = part-row (accessRows ++ (eventRows ++ stateRows)) stringRows galleyRows e from h
+
+  pub galley-row : Describe source galleyRows → length (accessRows ++ (eventRows ++ (stateRows ++ stringRows))) ≤ place → place < length commands →
+      RowAt (getD source (place - length (accessRows ++ (eventRows ++ (stateRows ++ stringRows)))) d) commands place
+  unfolding commands
+  galley-row e from h = part-row (accessRows ++ (eventRows ++ (stateRows ++ stringRows))) galleyRows [] e from h
 
 module _ {command : Command} {rows : List Row} {i : ℕ} (at : RowAt command rows i) where
   pub name-within : command .name ≤ length (command .usage)
@@ -127,13 +133,13 @@ pub usage-past : (place : ℕ) → length commands ≤ place → usageAt place �
 unfolding usageAt
 usage-past place h = List·getD-eq-default (map (λ row. row .usage) commands) [] {n = place} (rw length-map h)
 
-pub usage-short : (place : ℕ) → length (usageAt place) ≤ 38
+pub usage-short : (place : ℕ) → length (usageAt place) ≤ 51
 unfolding usageAt commands
 usage-short place =
-    leb-true _ _ (every-at (λ usage. leb (length usage) 38) (map (λ row. row .usage) commands) place [] refl refl)
+    leb-true _ _ (every-at (λ usage. leb (length usage) 51) (map (λ row. row .usage) commands) place [] refl refl)
 
 -- as many rows, and numbers of a state, as the source has
-pub many : length commands ≡ 25
+pub many : length commands ≡ 26
 unfolding commands
 many = refl
 

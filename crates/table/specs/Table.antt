@@ -59,15 +59,21 @@ signed16 = Signed 32_767
 unfoldable pub stateNumbers : List Parameter
 stateNumbers = map (λ most. Number most) limits
 
--- the calls that start and drive the device
-abbrev pub callRows : List Row
-callRows =
-    row "start WATCHDOG SPINUP TARGET FREQUENCY" (Device device.Start) (any ∷ any ∷ any ∷ Number 255 ∷ [])
+-- the calls that start the device and access its registers
+abbrev pub accessRows : List Row
+accessRows =
+    row "start WATCHDOG SPINUP TARGET FREQUENCY MODIFICATION" (Device device.Start) (any ∷ any ∷ any ∷ Number 255 ∷ any ∷ [])
     ∷ rowOfKind kind.Write "write ADDRESS BYTE" (Device device.Write) (any ∷ Number 255 ∷ [])
     ∷ rowOfKind kind.WriteWord "word ADDRESS WORD" (Device device.Word) (any ∷ Number 65_535 ∷ [])
     ∷ rowOfKind kind.Read "read ADDRESS" (Device device.Read) (any ∷ [])
-    ∷ rowOfKind kind.Ticks "ticks N" (Device device.Ticks) (any ∷ [])
+    ∷ []
+
+-- the calls that tell what happens to it
+abbrev pub eventRows : List Row
+eventRows =
+    rowOfKind kind.Ticks "ticks N" (Device device.Ticks) (any ∷ [])
     ∷ rowOfKind kind.Tachometer "tach CHANNEL COUNT" (Device device.Tach) (any ∷ any ∷ [])
+    ∷ rowOfKind kind.Pulse "pulse CHANNEL" (Device device.Pulse) (any ∷ [])
     ∷ rowOfKind kind.Pin "pin LEVEL" (Device device.Pin) (Number 1 ∷ [])
     ∷ []
 
@@ -106,7 +112,7 @@ galleyRows =
     ∷ []
 
 unfoldable pub commands : List Row
-commands = callRows ++ (stateRows ++ (stringRows ++ galleyRows))
+commands = accessRows ++ (eventRows ++ (stateRows ++ (stringRows ++ galleyRows)))
 
 -- how many bytes an answer has at most
 abbrev pub longestOfDevice : DeviceVerb → ℕ
@@ -116,6 +122,7 @@ longestOfDevice device.Word = 11
 longestOfDevice device.Read = 22
 longestOfDevice device.Ticks = 11
 longestOfDevice device.Tach = 11
+longestOfDevice device.Pulse = 11
 longestOfDevice device.Pin = 11
 
 abbrev pub longestOfGalley : GalleyVerb → ℕ
@@ -132,14 +139,14 @@ longestOf (Device verb) = longestOfDevice verb
 longestOf Cabin = 158
 longestOf FanFail = 44
 longestOf Speed = 22
-longestOf Dump = 748
+longestOf Dump = 825
 longestOf Load = 3
-longestOf Show = 1343
+longestOf Show = 1648
 longestOf Chart = 1431
 longestOf Run = 4130
 longestOf Decode = 43079
 longestOf (Galley verb) = longestOfGalley verb
-longestOf Help = 2213
+longestOf Help = 2399
 
 -- the word that a command begins with
 abbrev pub nameOf : Row → List ℕ

@@ -3,7 +3,7 @@ ghost use mathlib.Core.Path.{_≡_};
 ghost use Prim.Native.Nat.{_<_, _≤_};
 ghost use lib.ListN.{length, take};
 ghost use Rattle.text.specs.Put.{Put};
-ghost use Rattle.table.specs.Table.{callRows, stateRows, stringRows, galleyRows, commands, sameBytes, namedBy, usageAt};
+ghost use Rattle.table.specs.Table.{accessRows, eventRows, stateRows, stringRows, galleyRows, commands, sameBytes, namedBy, usageAt};
 ghost use Rattle.table.specs.Rows.{parameterBy, Describe, RowAt, FoundAs};
 use check::same;
 use image::STATE_NUMBERS;
@@ -33,6 +33,7 @@ pub enum DeviceVerb {
     Read,
     Ticks,
     Tach,
+    Pulse,
     Pin,
 }
 
@@ -69,6 +70,7 @@ pub enum Kind {
     Tachometer,
     Pin,
     WriteWord,
+    Pulse,
 }
 
 // Whether a command is a call that has a kind.
@@ -79,7 +81,7 @@ pub enum Recorded {
 
 pub struct Command {
     // How it is written: so many bytes, of which so many are its name.
-    pub usage: [u8; 38],
+    pub usage: [u8; 51],
     pub long: usize,
     pub name: usize,
     pub asks: Asks,
@@ -121,9 +123,12 @@ const STORED: u64 = SIGNED + 32767;
 // Past a row's last parameter.
 const NONE: u64 = 0;
 
-// The rows stand in four parts, which are proved apart: the calls that start and drive the device, what is asked of a state, order
-// strings, and the galley with `help`.
-const CALL_ROWS: usize = 7;
+// The rows stand in five parts, which are proved apart: starting the device and accessing its registers, what happens to it, what is
+// asked of a state, order strings, and the galley with `help`. A row is copied out of its part, so the parts that most lines go through
+// are short.
+const ACCESS_ROWS: usize = 4;
+
+const EVENT_ROWS: usize = 4;
 
 const STATE_ROWS: usize = 7;
 
@@ -131,25 +136,27 @@ const STRING_ROWS: usize = 3;
 
 const GALLEY_ROWS: usize = 8;
 
-// The places of the first row of order strings and of the first of the galley.
-const STRINGS_FROM: usize = CALL_ROWS + STATE_ROWS;
+// The places of the first rows of the third part and of those after it.
+const STATES_FROM: usize = ACCESS_ROWS + EVENT_ROWS;
+
+const STRINGS_FROM: usize = STATES_FROM + STATE_ROWS;
 
 const GALLEY_FROM: usize = STRINGS_FROM + STRING_ROWS;
 
 pub const ROWS: usize = GALLEY_FROM + GALLEY_ROWS;
 
-const CALLS: [Command; CALL_ROWS] = [
+const ACCESSES: [Command; ACCESS_ROWS] = [
     Command {
-        usage: *b"start WATCHDOG SPINUP TARGET FREQUENCY",
-        long: 38,
+        usage: *b"start WATCHDOG SPINUP TARGET FREQUENCY MODIFICATION",
+        long: 51,
         name: 5,
         asks: Asks::For(Verb::Device(DeviceVerb::Start)),
         recorded: Recorded::Not,
-        count: 4,
-        slots: [ANY, ANY, ANY, BYTE, NONE, NONE],
+        count: 5,
+        slots: [ANY, ANY, ANY, BYTE, ANY, NONE],
     },
     Command {
-        usage: *b"write ADDRESS BYTE                    ",
+        usage: *b"write ADDRESS BYTE                                 ",
         long: 18,
         name: 5,
         asks: Asks::For(Verb::Device(DeviceVerb::Write)),
@@ -158,7 +165,7 @@ const CALLS: [Command; CALL_ROWS] = [
         slots: [ANY, BYTE, NONE, NONE, NONE, NONE],
     },
     Command {
-        usage: *b"word ADDRESS WORD                     ",
+        usage: *b"word ADDRESS WORD                                  ",
         long: 17,
         name: 4,
         asks: Asks::For(Verb::Device(DeviceVerb::Word)),
@@ -167,7 +174,7 @@ const CALLS: [Command; CALL_ROWS] = [
         slots: [ANY, WORD, NONE, NONE, NONE, NONE],
     },
     Command {
-        usage: *b"read ADDRESS                          ",
+        usage: *b"read ADDRESS                                       ",
         long: 12,
         name: 4,
         asks: Asks::For(Verb::Device(DeviceVerb::Read)),
@@ -175,8 +182,11 @@ const CALLS: [Command; CALL_ROWS] = [
         count: 1,
         slots: [ANY, NONE, NONE, NONE, NONE, NONE],
     },
+];
+
+const EVENTS: [Command; EVENT_ROWS] = [
     Command {
-        usage: *b"ticks N                               ",
+        usage: *b"ticks N                                            ",
         long: 7,
         name: 5,
         asks: Asks::For(Verb::Device(DeviceVerb::Ticks)),
@@ -185,7 +195,7 @@ const CALLS: [Command; CALL_ROWS] = [
         slots: [ANY, NONE, NONE, NONE, NONE, NONE],
     },
     Command {
-        usage: *b"tach CHANNEL COUNT                    ",
+        usage: *b"tach CHANNEL COUNT                                 ",
         long: 18,
         name: 4,
         asks: Asks::For(Verb::Device(DeviceVerb::Tach)),
@@ -194,7 +204,16 @@ const CALLS: [Command; CALL_ROWS] = [
         slots: [ANY, ANY, NONE, NONE, NONE, NONE],
     },
     Command {
-        usage: *b"pin LEVEL                             ",
+        usage: *b"pulse CHANNEL                                      ",
+        long: 13,
+        name: 5,
+        asks: Asks::For(Verb::Device(DeviceVerb::Pulse)),
+        recorded: Recorded::As(Kind::Pulse),
+        count: 1,
+        slots: [ANY, NONE, NONE, NONE, NONE, NONE],
+    },
+    Command {
+        usage: *b"pin LEVEL                                          ",
         long: 9,
         name: 3,
         asks: Asks::For(Verb::Device(DeviceVerb::Pin)),
@@ -206,7 +225,7 @@ const CALLS: [Command; CALL_ROWS] = [
 
 const STATES: [Command; STATE_ROWS] = [
     Command {
-        usage: *b"cabin                                 ",
+        usage: *b"cabin                                              ",
         long: 5,
         name: 5,
         asks: Asks::For(Verb::Cabin),
@@ -215,7 +234,7 @@ const STATES: [Command; STATE_ROWS] = [
         slots: [NONE, NONE, NONE, NONE, NONE, NONE],
     },
     Command {
-        usage: *b"fanfail                               ",
+        usage: *b"fanfail                                            ",
         long: 7,
         name: 7,
         asks: Asks::For(Verb::FanFail),
@@ -224,7 +243,7 @@ const STATES: [Command; STATE_ROWS] = [
         slots: [NONE, NONE, NONE, NONE, NONE, NONE],
     },
     Command {
-        usage: *b"speed RANGE PULSES COUNT              ",
+        usage: *b"speed RANGE PULSES COUNT                           ",
         long: 24,
         name: 5,
         asks: Asks::For(Verb::Speed),
@@ -233,7 +252,7 @@ const STATES: [Command; STATE_ROWS] = [
         slots: [ANY, ANY, ANY, NONE, NONE, NONE],
     },
     Command {
-        usage: *b"dump                                  ",
+        usage: *b"dump                                               ",
         long: 4,
         name: 4,
         asks: Asks::For(Verb::Dump),
@@ -242,7 +261,7 @@ const STATES: [Command; STATE_ROWS] = [
         slots: [NONE, NONE, NONE, NONE, NONE, NONE],
     },
     Command {
-        usage: *b"load NUMBERS                          ",
+        usage: *b"load NUMBERS                                       ",
         long: 12,
         name: 4,
         asks: Asks::For(Verb::Load),
@@ -251,7 +270,7 @@ const STATES: [Command; STATE_ROWS] = [
         slots: [NONE, NONE, NONE, NONE, NONE, NONE],
     },
     Command {
-        usage: *b"show                                  ",
+        usage: *b"show                                               ",
         long: 4,
         name: 4,
         asks: Asks::For(Verb::Show),
@@ -260,7 +279,7 @@ const STATES: [Command; STATE_ROWS] = [
         slots: [NONE, NONE, NONE, NONE, NONE, NONE],
     },
     Command {
-        usage: *b"chart TICKS                           ",
+        usage: *b"chart TICKS                                        ",
         long: 11,
         name: 5,
         asks: Asks::For(Verb::Chart),
@@ -272,7 +291,7 @@ const STATES: [Command; STATE_ROWS] = [
 
 const STRINGS: [Command; STRING_ROWS] = [
     Command {
-        usage: *b"run STRING ALLOWANCE ROOM             ",
+        usage: *b"run STRING ALLOWANCE ROOM                          ",
         long: 25,
         name: 3,
         asks: Asks::For(Verb::Run),
@@ -281,7 +300,7 @@ const STRINGS: [Command; STRING_ROWS] = [
         slots: [STRING, ANY, ROOM, NONE, NONE, NONE],
     },
     Command {
-        usage: *b"encode CALL                           ",
+        usage: *b"encode CALL                                        ",
         long: 11,
         name: 6,
         asks: Asks::Record,
@@ -290,7 +309,7 @@ const STRINGS: [Command; STRING_ROWS] = [
         slots: [NONE, NONE, NONE, NONE, NONE, NONE],
     },
     Command {
-        usage: *b"decode STRING                         ",
+        usage: *b"decode STRING                                      ",
         long: 13,
         name: 6,
         asks: Asks::For(Verb::Decode),
@@ -302,7 +321,7 @@ const STRINGS: [Command; STRING_ROWS] = [
 
 const GALLEY: [Command; GALLEY_ROWS] = [
     Command {
-        usage: *b"gfresh HIGH OVER HYSTERESIS QUIET     ",
+        usage: *b"gfresh HIGH OVER HYSTERESIS QUIET                  ",
         long: 33,
         name: 6,
         asks: Asks::For(Verb::Galley(GalleyVerb::Fresh)),
@@ -311,7 +330,7 @@ const GALLEY: [Command; GALLEY_ROWS] = [
         slots: [DEGREES, DEGREES, LEVEL, LEVEL, NONE, NONE],
     },
     Command {
-        usage: *b"gsample T NORMAL QUIET                ",
+        usage: *b"gsample T NORMAL QUIET                             ",
         long: 22,
         name: 7,
         asks: Asks::For(Verb::Galley(GalleyVerb::Sample)),
@@ -320,7 +339,7 @@ const GALLEY: [Command; GALLEY_ROWS] = [
         slots: [DEGREES, STRING, STRING, NONE, NONE, NONE],
     },
     Command {
-        usage: *b"gspan FIRST END NORMAL QUIET          ",
+        usage: *b"gspan FIRST END NORMAL QUIET                       ",
         long: 28,
         name: 5,
         asks: Asks::For(Verb::Galley(GalleyVerb::Span)),
@@ -329,7 +348,7 @@ const GALLEY: [Command; GALLEY_ROWS] = [
         slots: [ANY, ANY, STRING, STRING, NONE, NONE],
     },
     Command {
-        usage: *b"gread                                 ",
+        usage: *b"gread                                              ",
         long: 5,
         name: 5,
         asks: Asks::For(Verb::Galley(GalleyVerb::Read)),
@@ -338,7 +357,7 @@ const GALLEY: [Command; GALLEY_ROWS] = [
         slots: [NONE, NONE, NONE, NONE, NONE, NONE],
     },
     Command {
-        usage: *b"gdump                                 ",
+        usage: *b"gdump                                              ",
         long: 5,
         name: 5,
         asks: Asks::For(Verb::Galley(GalleyVerb::Dump)),
@@ -347,7 +366,7 @@ const GALLEY: [Command; GALLEY_ROWS] = [
         slots: [NONE, NONE, NONE, NONE, NONE, NONE],
     },
     Command {
-        usage: *b"gload NUMBERS                         ",
+        usage: *b"gload NUMBERS                                      ",
         long: 13,
         name: 5,
         asks: Asks::For(Verb::Galley(GalleyVerb::Load)),
@@ -356,7 +375,7 @@ const GALLEY: [Command; GALLEY_ROWS] = [
         slots: [BYTE, STORED, STORED, STORED, LEVEL, LEVEL],
     },
     Command {
-        usage: *b"gshow                                 ",
+        usage: *b"gshow                                              ",
         long: 5,
         name: 5,
         asks: Asks::For(Verb::Galley(GalleyVerb::Show)),
@@ -365,7 +384,7 @@ const GALLEY: [Command; GALLEY_ROWS] = [
         slots: [NONE, NONE, NONE, NONE, NONE, NONE],
     },
     Command {
-        usage: *b"help                                  ",
+        usage: *b"help                                               ",
         long: 4,
         name: 4,
         asks: Asks::For(Verb::Help),
@@ -388,10 +407,16 @@ pub fn held(slot: u64) -> Parameter
     Parameter::Bytes
 }
 
-fn calls() -> [Command; CALL_ROWS]
-    ensures { λ r. ⌜ Describe r callRows ⌝ }
+fn accesses() -> [Command; ACCESS_ROWS]
+    ensures { λ r. ⌜ Describe r accessRows ⌝ }
 {
-    CALLS
+    ACCESSES
+}
+
+fn events() -> [Command; EVENT_ROWS]
+    ensures { λ r. ⌜ Describe r eventRows ⌝ }
+{
+    EVENTS
 }
 
 fn states() -> [Command; STATE_ROWS]
@@ -417,13 +442,17 @@ fn row(place: usize) -> Command
     requires { ⌜ place < length commands ⌝ }
     ensures { λ r. ⌜ RowAt r commands place ⌝ }
 {
-    if place < CALL_ROWS {
-        let rows = calls();
+    if place < ACCESS_ROWS {
+        let rows = accesses();
         return rows[place];
+    }
+    if place < STATES_FROM {
+        let rows = events();
+        return rows[place - ACCESS_ROWS];
     }
     if place < STRINGS_FROM {
         let rows = states();
-        return rows[place - CALL_ROWS];
+        return rows[place - STATES_FROM];
     }
     if place < GALLEY_FROM {
         let rows = order_strings();

@@ -2,11 +2,12 @@
 ghost use mathlib.Core.Path.{_≡_};
 ghost use Prim.Native.Nat.{_+_, _<_, min};
 ghost use Rattle.rules.specs.State.{results, resultsOf, withResults};
-ghost use Rattle.rules.specs.Tachometer.{storedCount, judged, isBad, badResult, resultTaken, channelResult, withResult, isChannel, resultOf};
+ghost use Rattle.rules.specs.Tachometer.{storedCount, judged, isBad, badResult, resultTaken, channelResult, withResult, resultOf};
 use device::answer::answered;
 use device::codes::queue_length;
 use device::duty::conditions;
 use device::duty::output_duty;
+use device::valid::is_channel;
 use device::valid::valid;
 use registers::fields::monitor_only;
 use registers::fields::queue_code;
@@ -132,12 +133,6 @@ fn with_result(state: State, i: usize, count: u32) -> State
     let mut next = state;
     next.channels[i] = channel_result(conditions(state), needed, state.channels[i], count);
     next
-}
-
-fn is_channel(number: u32) -> bool
-    ensures { λ r. ⌜ r ≡ isChannel number ⌝ }
-{
-    (1 <= number) & (number <= 6)
 }
 
 // A result of channel 1 to 6: how many clocks of 8,192 Hz were counted.

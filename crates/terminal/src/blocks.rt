@@ -28,7 +28,7 @@ struct Progress {
 fn begin() -> Progress
     ensures { λ r. ⌜ (r .kept ≡ 0) × (r .at ≡ 0) ⌝ }
 {
-    let refused = start::start(4, 0, 0, 0);
+    let refused = start::start(4, 0, 0, 0, 0);
     let state = refused.state;
     let out_of_range = galley::fresh(1024, 0, false, false);
     let galley = out_of_range.galley;

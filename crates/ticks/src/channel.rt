@@ -79,6 +79,7 @@ fn not_spinning(channel: Channel, clock: u64, ticks: u32) -> Channel
         let left = ticks - 1;
         let mut next = channel;
         next.ramp = 511;
+        next.pulses = 0;
         if left <= time as u32 {
             next.spin = time - left as u16;
             return next;
@@ -88,19 +89,24 @@ fn not_spinning(channel: Channel, clock: u64, ticks: u32) -> Channel
     ramped(channel, clock, ticks)
 }
 
-// Any channel, under an override or not.
+// Any channel, under an override or not. With no spin-up time left no pulses are counted, so clearing both is right where none runs too.
 pub fn channel_after(held: bool, channel: Channel, clock: u32, ticks: u32) -> Channel
+    requires { ⌜ channel .pulses ≤ channel .spin ⌝ }
     ensures { λ r. ⌜ r ≡ channelTicks held ticks clock channel ⌝ }
 {
     if held {
         return channel;
     }
+    if ticks == 0 {
+        return channel;
+    }
     let spin = channel.spin;
     let mut next = channel;
-    if ticks <= spin as u32 {
+    if ticks < spin as u32 {
         next.spin = spin - ticks as u16;
         return next;
     }
     next.spin = 0;
+    next.pulses = 0;
     not_spinning(next, clock as u64 + spin as u64, ticks - spin as u32)
 }

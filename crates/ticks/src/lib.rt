@@ -1,10 +1,12 @@
 // The passing of ticks. No loop counts ticks: each part of the state is worked out at once, whatever their number.
 ghost use mathlib.Core.Path.{_≡_};
 ghost use mathlib.Core.Bool.{true};
+ghost use Rattle.rules.specs.Basics.{every};
 ghost use Rattle.rules.specs.Valid.{validOf};
 ghost use Rattle.rules.specs.Tick.{idleLimit, tick, iterate, ticksPassed};
 ghost use Rattle.rules.specs.Make.{eachPassed};
 ghost use Rattle.laws.proofs.StateTicks.{counting, eachAfter, timed};
+ghost use Rattle.laws.proofs.Valid.{fewPulses};
 use crate::channel::channel_after;
 use device::answer::answered;
 use device::codes::watchdog_limit;
@@ -22,6 +24,7 @@ use rules::State;
 mod channel;
 
 fn channels_after(now: Conditions, channels: [Channel; 6], clock: u32, ticks: u32) -> [Channel; 6]
+    requires { ⌜ every fewPulses channels ≡ true ⌝ }
     ensures { λ r. ⌜ r ≡ eachAfter now ticks clock channels ⌝ }
 {
     let mut next = channels;

@@ -28,6 +28,14 @@ fn word_line(name: &[u8], state: State, address: u32, word: u16) -> State {
     answer.state
 }
 
+fn pulse_line(name: &[u8], state: State, channel: u32) -> State {
+    let answer = pulse::take_pulse(state, channel);
+    call(name);
+    number(answer.refusal);
+    io::write_all(STDOUT_FILENO, b"\n");
+    answer.state
+}
+
 fn read_line(name: &[u8], state: State, address: u32) -> State {
     let answer = read::read(state, address);
     call(name);
@@ -47,9 +55,13 @@ fn refused_words(state: State) -> State {
 }
 
 fn main() {
-    // Watchdog code 1, spin-up code 1, power-on target 300, frequency byte 11h.
-    let begun = start::start(1, 1, 300, 0x11);
-    call(b"start 1 1 300 17");
+    // Watchdog code 1, spin-up code 1, power-on target 300, frequency byte 11h, a modification that there is not, and B.
+    let refused = start::start(1, 1, 300, 0x11, 2);
+    call(b"start 1 1 300 17 2");
+    number(refused.refusal);
+    io::write_all(STDOUT_FILENO, b"\n");
+    let begun = start::start(1, 1, 300, 0x11, 1);
+    call(b"start 1 1 300 17 1");
     number(begun.refusal);
     io::write_all(STDOUT_FILENO, b"\n");
     let a = read_line(b"read 0Eh", begun.state, 0x0E);
@@ -61,5 +73,8 @@ fn main() {
     let g = read_line(b"read 40h", f, 0x40);
     let h = write_line(b"write 00h C0h", g, 0x00, 0xC0);
     let i = read_line(b"read 00h", h, 0x00);
-    read_line(b"read 40h", i, 0x40);
+    let j = read_line(b"read 40h", i, 0x40);
+    let k = pulse_line(b"pulse 0", j, 0);
+    let l = pulse_line(b"pulse 7", k, 7);
+    pulse_line(b"pulse 6", l, 6);
 }

@@ -39,6 +39,7 @@ fn stopped(channel: Channel) -> Channel
     let mut next = channel;
     next.ramp = 0;
     next.spin = 0;
+    next.pulses = 0;
     next
 }
 

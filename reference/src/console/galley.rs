@@ -162,11 +162,11 @@ fn dump_answer(galley: &Galley) -> String {
 #[cfg(test)]
 mod tests {
     use super::*;
-    use crate::model;
+    use crate::model::{self, PinSet};
     use crate::text::plain_line;
 
     fn answer(call: GalleyCall, galley: &mut Galley) -> String {
-        let (_, mut controller) = model::start(0, 0, 0, 0);
+        let (_, mut controller) = model::start(&PinSet::default());
         call.make(galley, &mut controller).1
     }
 

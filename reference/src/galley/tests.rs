@@ -3,7 +3,7 @@
 
 use super::*;
 use crate::choices::galley::{tables_about, temperature_about};
-use crate::model::{start, ticks, write, write_word, STATUS, TACHOMETER_ENABLED};
+use crate::model::{pulse, start, ticks, write, write_word, PinSet, STATUS, TACHOMETER_ENABLED};
 use crate::random::Random;
 use crate::states::galley::{flawed_galley, sound_galley, GALLEY_FLAWS};
 use crate::states::sound_state;
@@ -23,7 +23,10 @@ fn galley_in(row: u8, hysteresis: bool) -> Galley {
 
 /// A box that runs with the watchdog off, all of its targets at this duty.
 fn controller_at(target: u32) -> State {
-    let (refusal, state) = start(0, 0, target, 0);
+    let (refusal, state) = start(&PinSet {
+        target,
+        ..PinSet::default()
+    });
     assert_eq!(refusal, ACCEPTED);
     state
 }
@@ -474,4 +477,30 @@ fn a_galley_with_a_flaw_is_refused() {
         assert_eq!(span(&flawed, 0, 1, &numbered()).0, NOT_SOUND);
         assert_eq!(reading(&flawed), (NOT_SOUND, 0));
     }
+}
+
+#[test]
+fn a_sample_leaves_a_spin_up_and_its_count_alone() {
+    let (_, state) = start(&PinSet {
+        spin_up: 1,
+        target: 200,
+        modification: 1,
+        ..PinSet::default()
+    });
+    let (_, state) = ticks(&state, 1);
+    let (_, counted) = pulse(&state, 1);
+    // The byte 40h is duty 128.
+    let mut expected = counted;
+    expected
+        .channels
+        .iter_mut()
+        .for_each(|channel| channel.target = 128);
+    assert_eq!(
+        sampled(&galley_in(0, false), &counted, 0, &level(0x40)),
+        expected
+    );
+    assert_eq!(
+        (expected.channels[0].spin, expected.channels[0].pulses),
+        (256, 1)
+    );
 }

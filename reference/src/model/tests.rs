@@ -1,13 +1,22 @@
-//! The paper's trials ("Trials on both sides"), its soundness clause by clause, and the places
-//! where its sentences meet.
+//! The paper's trials ("Trials on both sides") and the places where its sentences meet.
+
+mod pulses;
+mod results;
+mod soundness;
 
 use super::*;
 use crate::random::Random;
-use crate::states::{sound_state, unusual_sound_state};
+use crate::states::{
+    frozen_state, sound_state, spinning_state, state_before_expiry, unusual_sound_state, FREEZES,
+};
 
 /// A box that runs with the watchdog off, no override and no spin-up code; its channels rest at 0.
 fn quiet() -> State {
-    let (refusal, state) = start(0, 0, 0, 0);
+    started(PinSet::default())
+}
+
+fn started(values: PinSet) -> State {
+    let (refusal, state) = start(&values);
     assert_eq!(refusal, ACCEPTED);
     state
 }
@@ -278,10 +287,11 @@ fn each_override_freezes_ramp_and_spin_up() {
 fn single_ticks_and_a_jump_agree() {
     let mut random = Random::new(11);
     for turn in 0..120 {
-        let state = if turn % 2 == 0 {
-            sound_state(&mut random)
-        } else {
-            unusual_sound_state(&mut random)
+        let state = match turn % 4 {
+            0 => sound_state(&mut random),
+            1 => unusual_sound_state(&mut random),
+            2 => spinning_state(&mut random),
+            _ => state_before_expiry(&mut random),
         };
         let count = random.between(0, 30_000);
         let mut single = state;
@@ -381,7 +391,13 @@ fn eighty_five_registers_are_carried() {
 
 #[test]
 fn power_on_values() {
-    let (_, state) = start(3, 2, 300, 0xB7);
+    let state = started(PinSet {
+        watchdog: 3,
+        spin_up: 2,
+        target: 300,
+        frequency: 0xB7,
+        modification: 1,
+    });
     let table = [
         (0x00, 0b0010_0110),
         (0x01, 0xB7),
@@ -584,20 +600,44 @@ fn tachometers_seven_to_twelve_read_full_scale() {
 fn start_refuses_values_out_of_range() {
     let nothing = State::default();
     assert!(!nothing.pin && sound(&nothing));
-    for (watchdog, spin_up, target) in [(4, 0, 0), (0, 4, 0), (0, 0, 512), (u32::MAX, 0, 0)] {
-        assert_eq!(
-            start(watchdog, spin_up, target, 9),
-            (PIN_SET_VALUE, nothing)
-        );
+    let highest = PinSet {
+        watchdog: 3,
+        spin_up: 3,
+        target: 511,
+        frequency: 255,
+        modification: 1,
+    };
+    assert_eq!(start(&highest).0, ACCEPTED);
+    for (watchdog, spin_up, target) in [
+        (4, 3, 511),
+        (3, 4, 511),
+        (3, 3, 512),
+        (256, 0, 0),
+        (0, 65_536, 0),
+        (0, 0, 65_536),
+        (u32::MAX, u32::MAX, u32::MAX),
+    ] {
+        let refused = PinSet {
+            watchdog,
+            spin_up,
+            target,
+            ..highest
+        };
+        assert_eq!(start(&refused), (PIN_SET_VALUE, nothing));
     }
-    assert_eq!(start(3, 3, 511, 255).0, ACCEPTED);
     // The pin is low: every duty is 511.
     assert_eq!(output_duty(&nothing, 0), 511);
 }
 
 #[test]
 fn reset_keeps_clock_and_pin_alone() {
-    let (_, fresh) = start(1, 2, 33, 0x77);
+    let fresh = started(PinSet {
+        watchdog: 1,
+        spin_up: 2,
+        target: 33,
+        frequency: 0x77,
+        modification: 1,
+    });
     let mut state = fresh;
     for (address, byte) in [
         (0x00, 0xA6),
@@ -731,142 +771,6 @@ fn a_word_moves_no_ramp_and_ends_no_spin_up() {
     assert_eq!(next, expected);
 }
 
-// Tachometer results
-
-#[test]
-fn a_disabled_tachometer_changes_nothing() {
-    let state = ramping(0, 100, 100, rate(3));
-    assert_eq!(tachometer(&state, 1, 2047), (ACCEPTED, state));
-}
-
-#[test]
-fn results_are_judged_by_the_state_before_them() {
-    let standing = watched(0);
-    let bad = |state: &State| with_result(state, 1, 481).channels[0].queue;
-    assert_eq!(bad(&standing), 1);
-    assert_eq!(bad(&written(&standing, 0x00, STANDBY)), 0);
-    let mut state = standing;
-    state.channels[0].ramp = 0;
-    assert_eq!(bad(&state), 0);
-    // Monitor only is judged at duty 0; FULL_SPEED low gives a duty of 511.
-    assert_eq!(bad(&written(&standing, 0x02, 0x18)), 1);
-    assert_eq!(bad(&pin(&state, false).1), 1);
-    state.channels[0].ramp = 511;
-    state.channels[0].spin = 1;
-    assert_eq!(bad(&state), 0);
-    // A spin-up frozen under an override still has time left.
-    assert_eq!(bad(&pin(&state, false).1), 0);
-}
-
-#[test]
-fn option_zero_leaves_results_of_a_failed_channel_unjudged() {
-    let mut state = watched(0);
-    state.options = 0x00;
-    state = with_result(&state, 1, 481);
-    assert_eq!((state.faults, state.channels[0].queue), (1, 1));
-    let good = with_result(&state, 1, 3);
-    assert_eq!((good.channels[0].count, good.channels[0].queue), (3, 1));
-    let full_speed = with_result(&pin(&state, false).1, 1, 3);
-    assert_eq!(full_speed.channels[0].queue, 0);
-}
-
-#[test]
-fn a_count_at_the_target_is_good_and_keeps_the_fault() {
-    let mut state = watched(0);
-    state = with_result(&state, 1, 481);
-    assert_eq!((state.faults, state.channels[0].queue), (1, 1));
-    state = with_result(&state, 1, 480);
-    assert_eq!((state.faults, state.channels[0].queue), (1, 0));
-}
-
-#[test]
-fn a_count_of_2047_is_bad_for_any_target() {
-    let standing = watched(1);
-    for (target, count, queue) in [
-        (0, 0, 0),
-        (0, 1, 1),
-        (2045, 2045, 0),
-        (2045, 2046, 1),
-        (2046, 2046, 0),
-        (2046, 2047, 1),
-        (2047, 2046, 0),
-        (2047, 2047, 1),
-        (2047, 2048, 1),
-        (2047, u32::MAX, 1),
-    ] {
-        let mut state = standing;
-        state.channels[0].target_count = target;
-        let next = with_result(&state, 1, count);
-        assert_eq!((next.channels[0].queue, next.faults), (queue, 0));
-        assert_eq!(u32::from(next.channels[0].count), count.min(2047));
-    }
-}
-
-#[test]
-fn a_stopped_fan_fails_at_a_target_count_of_2047() {
-    for (code, length) in [(0, 1), (1, 2), (2, 4), (3, 6)] {
-        let mut state = watched(code);
-        state.mask1 = 0x00;
-        state.channels[0].target_count = 2047;
-        for results in 1..=7 {
-            state = with_result(&state, 1, 5000);
-            let (_, asserted, ..) = fan_fail(&state);
-            assert_eq!(asserted, results >= length);
-        }
-    }
-}
-
-#[test]
-fn a_count_of_2047_that_is_not_judged_is_only_stored() {
-    let mut state = watched(0);
-    state.channels[0].target_count = 2047;
-    state.channels[0].queue = 3;
-    state.channels[0].ramp = 0;
-    let next = with_result(&state, 1, 2047);
-    assert_eq!((next.channels[0].queue, next.faults), (3, 0));
-}
-
-#[test]
-fn queue_lengths_and_the_cap() {
-    for (code, length) in [(0, 1), (1, 2), (2, 4), (3, 6)] {
-        let mut state = watched(code);
-        for results in 1..=9 {
-            state = with_result(&state, 1, 2047);
-            assert_eq!(state.faults, u8::from(results >= length));
-            assert_eq!(state.channels[0].queue, results.min(6));
-        }
-    }
-}
-
-#[test]
-fn a_word_to_a_duty_clears_fault_and_queue_of_its_channel() {
-    let mut state = watched(0);
-    state.faults = 0x03;
-    state.channels[0].queue = 4;
-    state.channels[1].queue = 5;
-    // The present target, 0, is as good as another one.
-    for word in [0x0000, 0x1000] {
-        let next = word_written(&state, 0x42, word);
-        assert_eq!(
-            (next.faults, next.channels[0].queue, next.channels[1].queue),
-            (1, 4, 0)
-        );
-    }
-    for address in [0x02, 0x08, 0x13, 0x14, 0x60] {
-        let next = written(&state, address, 0x00);
-        assert_eq!((next.faults, next.channels[0].queue), (3, 4));
-    }
-    let counted = word_written(&state, 0x50, 0x1000);
-    assert_eq!((counted.faults, counted.channels[0].queue), (3, 4));
-    for (address, refusal) in [(0x41, 8), (0x3C, 2), (0x30, 3)] {
-        assert_eq!(write_word(&state, address, 0x1000), (refusal, state));
-    }
-    for address in [0x40, 0x41] {
-        assert_eq!(write(&state, address, 0x10), (BYTE_OR_WORD, state));
-    }
-    assert_eq!(read(&state, 0x11).2.faults, 3);
-}
-
 // Queries and speed
 
 #[test]
@@ -917,150 +821,5 @@ fn no_speed_has_two_words_after_the_refusals() {
     for (range_code, pulses) in [(8, 1), (u32::MAX, 4), (0, 0), (7, 5), (8, 5)] {
         assert_eq!(speed(range_code, pulses, 2047), Speed::Refused);
         assert_eq!(speed(range_code, pulses, 0), Speed::Refused);
-    }
-}
-
-// Soundness, clause by clause
-
-/// A change that alone makes a sound state not sound.
-fn spoils(change: impl Fn(&mut State)) {
-    let mut state = ramping(0, 300, 300, rate(3));
-    change(&mut state);
-    assert!(!sound(&state), "{state:?}");
-    for address in [0x02, 0x11, 0x40, 0x41, 0xFFFF] {
-        assert_eq!(write(&state, address, 0x80), (NOT_SOUND, state));
-        assert_eq!(write_word(&state, address, 0x0080), (NOT_SOUND, state));
-    }
-    assert_eq!(read(&state, 0xFFFF), (NOT_SOUND, 0, state));
-    assert_eq!(ticks(&state, 0), (NOT_SOUND, state));
-    assert_eq!(ticks(&state, 9), (NOT_SOUND, state));
-    assert_eq!(tachometer(&state, 0, 0), (NOT_SOUND, state));
-    assert_eq!(pin(&state, false), (NOT_SOUND, state));
-    assert_eq!(cabin(&state), (NOT_SOUND, 0, [0; 6]));
-    assert_eq!(fan_fail(&state), (NOT_SOUND, false, 0, 0));
-}
-
-fn keeps_sound(change: impl Fn(&mut State)) {
-    let mut state = ramping(0, 300, 300, rate(3));
-    change(&mut state);
-    assert!(sound(&state), "{state:?}");
-}
-
-#[test]
-fn fields_of_the_box_in_range() {
-    spoils(|state| state.control |= 0x40);
-    spoils(|state| state.control |= 0x10);
-    spoils(|state| state.mask2 = 0x40);
-    spoils(|state| state.mask1 = 0x80);
-    spoils(|state| state.options |= 0x10);
-    spoils(|state| state.start_watchdog = 4);
-    spoils(|state| state.start_spinup = 4);
-    spoils(|state| state.start_target = 512);
-    keeps_sound(|state| {
-        state.control = 0x29;
-        state.frequency = 0xFF;
-        state.mask1 = 0x3F;
-        state.options = 0xEF;
-        state.start_watchdog = 3;
-        state.start_spinup = 3;
-        state.start_target = 511;
-        state.start_frequency = 0xFF;
-        state.faults = 0x3F;
-    });
-}
-
-#[test]
-fn fields_of_a_channel_in_range() {
-    for bit in [0x80, 0x04, 0x01] {
-        spoils(|state| state.channels[5].config |= bit);
-    }
-    spoils(|state| state.channels[4].dynamics |= 1);
-    spoils(|state| state.channels[3].count = 2048);
-    spoils(|state| state.channels[2].ramp = 512);
-    spoils(|state| state.channels[1].target = 512);
-    spoils(|state| state.channels[0].target_count = 2048);
-    spoils(|state| state.channels[5].queue = 7);
-    spoils(|state| {
-        state.channels[0].ramp = 511;
-        state.channels[0].spin = 1025;
-    });
-    keeps_sound(|state| {
-        state.channels[0].ramp = 511;
-        state.channels[0].spin = 1024;
-        state.channels[0].config = 0x0A;
-        state.channels[0].dynamics = 0xFE;
-        state.channels[0].count = 2047;
-        state.channels[0].target = 511;
-        state.channels[0].target_count = 2047;
-        state.channels[0].window = 0xFF;
-        state.channels[0].queue = 6;
-    });
-}
-
-#[test]
-fn ramp_and_spin_up_agree_with_the_mode() {
-    spoils(|state| state.channels[0].config |= MONITOR_ONLY);
-    spoils(|state| state.control |= STANDBY);
-    spoils(|state| state.channels[0].spin = 1);
-    spoils(|state| {
-        state.channels[1].config |= MONITOR_ONLY;
-        state.channels[1].spin = 1;
-    });
-    keeps_sound(|state| state.channels[1].config |= MONITOR_ONLY);
-    keeps_sound(|state| {
-        state.control |= STANDBY;
-        state.channels[0].ramp = 0;
-    });
-}
-
-#[test]
-fn watchdog_counts_agree() {
-    spoils(|state| state.idle = 1);
-    spoils(|state| state.expired = true);
-    for (code, limit) in [(1, 2560), (2, 5120), (3, 15_360)] {
-        let set = |state: &mut State, idle, expired| {
-            state.control |= code << 1;
-            state.idle = idle;
-            state.expired = expired;
-        };
-        spoils(|state| set(state, limit, false));
-        spoils(|state| set(state, limit + 1, false));
-        spoils(|state| set(state, limit + 1, true));
-        spoils(|state| set(state, limit - 1, true));
-        spoils(|state| set(state, 0, true));
-        keeps_sound(|state| set(state, limit - 1, false));
-        // Expired with the status bit clear is sound.
-        keeps_sound(|state| set(state, limit, true));
-    }
-    keeps_sound(|state| state.control |= STATUS);
-}
-
-#[test]
-fn a_channel_from_one_to_six() {
-    let state = quiet();
-    for channel in [0, 7, 256, u32::MAX] {
-        assert_eq!(tachometer(&state, channel, 5), (NO_SUCH_CHANNEL, state));
-    }
-    for channel in 1..=6 {
-        assert_eq!(tachometer(&state, channel, 5).0, ACCEPTED);
-    }
-}
-
-#[test]
-fn states_after_sound_ones_are_sound() {
-    let mut random = Random::new(13);
-    for _ in 0..3000 {
-        let state = sound_state(&mut random);
-        let address = random.below(0x68);
-        let byte = random.byte();
-        let channel = random.between(1, 6);
-        let count = random.below(2100);
-        let word = random.any() as u16;
-        assert!(sound(&write(&state, address, byte).1));
-        assert!(sound(&write_word(&state, address, word).1));
-        assert!(sound(&read(&state, address).2));
-        assert!(sound(&tachometer(&state, channel, count).1));
-        assert!(sound(&ticks(&state, count).1));
-        assert!(sound(&pin(&state, !state.pin).1));
     }
 }

@@ -1,13 +1,17 @@
 //! Numbers in bytes and back, the refusals of odd strings and their order, and runs in parts.
 
 use super::*;
-use crate::model::{BYTE_OR_WORD, CONFIGURATION, NOT_CARRIED, NO_SUCH_CHANNEL, READ_ONLY};
+use crate::model::{PinSet, BYTE_OR_WORD, CONFIGURATION, NOT_CARRIED, NO_SUCH_CHANNEL, READ_ONLY};
 use crate::random::Random;
 use crate::states::sound_state;
 use crate::strings::{any_record, string_of};
 
 fn fresh() -> State {
-    model::start(0, 0, 0, 0x77).1
+    let values = PinSet {
+        frequency: 0x77,
+        ..PinSet::default()
+    };
+    model::start(&values).1
 }
 
 /// A run with all the allowance and room that it needs: refusal and records taken.
@@ -64,8 +68,8 @@ fn numbers_that_are_malformed() {
 
 #[test]
 fn an_unknown_kind_is_refused_as_soon_as_it_is_read() {
-    let first_unknown = KINDS.len() as u32;
-    for kind in [first_unknown, 8, 127, 128, 133, 256, 261, 65_536, u32::MAX] {
+    assert_eq!(KINDS.len(), 7);
+    for kind in [7, 8, 127, 128, 134, 256, 262, 65_536, u32::MAX] {
         let bytes = number_bytes(kind);
         assert_eq!(outcome(&bytes), (KIND_OR_VALUE, 0));
         let malformed_number = [&bytes[..], &[0x80, 0x00]].concat();
@@ -143,6 +147,61 @@ fn a_word_in_a_string_is_written_in_one_go() {
 }
 
 #[test]
+fn a_pulse_has_one_number() {
+    for channel in 1..=6 {
+        assert_eq!(outcome(&[6, channel]), (ACCEPTED, 1));
+        assert_eq!(outcome(&[6, channel, 6, channel]), (ACCEPTED, 2));
+    }
+    for string in [&[6][..], &[6, 0x81], &[6, 0x80, 0x80, 0x80, 0x80]] {
+        assert_eq!(outcome(string), (ENDS_FIRST, 0));
+    }
+    assert_eq!(outcome(&[6, 0x81, 0x00]), (LAST_BYTE_ZERO, 0));
+    assert_eq!(outcome(&[6, 0x81, 0x80, 0x80, 0x80, 0x10]), (FIFTH_BYTE, 0));
+}
+
+#[test]
+fn a_pulse_on_no_channel_is_the_calls_own_refusal() {
+    for channel in [0, 7, 8, 127, 128, 129, 255, 256, 257, 65_537, u32::MAX] {
+        let bytes = record_bytes(&[6, channel]);
+        assert_eq!(outcome(&bytes), (NO_SUCH_CHANNEL, 0));
+        let after_another = [&[6, 1], &bytes[..]].concat();
+        assert_eq!(outcome(&after_another), (NO_SUCH_CHANNEL, 1));
+    }
+}
+
+#[test]
+fn two_pulses_in_a_string_end_a_spin_up() {
+    // A tick, two pulses on channel 1 and one on channel 2, three ticks, and the duty of channel 1.
+    let string = [2, 1, 6, 1, 6, 2, 6, 1, 2, 3, 1, 0x30, 1, 0x31];
+    let state = |modification| {
+        let values = PinSet {
+            spin_up: 1,
+            target: 200,
+            modification,
+            ..PinSet::default()
+        };
+        model::start(&values).1
+    };
+    let spin_ups = |run: &Run| {
+        let channels = &run.state.channels[..3];
+        let pairs = channels
+            .iter()
+            .map(|channel| (channel.spin, channel.pulses));
+        pairs.collect::<Vec<_>>()
+    };
+    let mut buffer = [0x33; 14];
+    let of_b = run(&state(1), &string, u32::MAX, &mut buffer);
+    assert_eq!((of_b.refusal, of_b.taken, of_b.written), (ACCEPTED, 7, 2));
+    // At clock 4 the ramp of channel 1 has made its first step: 510 is FFh, 00h.
+    assert_eq!(buffer[..3], [0xFF, 0x00, 0x33]);
+    assert_eq!(spin_ups(&of_b), [(0, 0), (253, 1), (253, 0)]);
+    let of_a = run(&state(0), &string, u32::MAX, &mut buffer);
+    assert_eq!((of_a.refusal, of_a.taken, of_a.written), (ACCEPTED, 7, 2));
+    assert_eq!(buffer[..3], [0xFF, 0x81, 0x33]);
+    assert_eq!(spin_ups(&of_a), [(253, 0), (253, 0), (253, 0)]);
+}
+
+#[test]
 fn numbers_are_tested_one_after_the_other() {
     assert_eq!(outcome(&[0, 0x80, 0x00]), (LAST_BYTE_ZERO, 0));
     assert_eq!(outcome(&[3, 0x80, 0x00, 0x80]), (LAST_BYTE_ZERO, 0));
@@ -169,6 +228,9 @@ fn refusals_of_the_calls() {
         (vec![5, 0x00, 0x6400], BYTE_OR_WORD),
         (vec![3, 0, 5], NO_SUCH_CHANNEL),
         (vec![3, 257, 5], NO_SUCH_CHANNEL),
+        (vec![6, 0], NO_SUCH_CHANNEL),
+        (vec![6, 7], NO_SUCH_CHANNEL),
+        (vec![6, 257], NO_SUCH_CHANNEL),
     ] {
         let bytes = record_bytes(&record);
         assert_eq!(outcome(&bytes), (refusal, 0), "{record:?}");

@@ -56,6 +56,15 @@ write-word-requires c κs = tt
 without-byte-requires-5 : tie.Need-without-byte-requires-5
 without-byte-requires-5 c κs = tt
 
+enum-known-call-7 : tie.Need-enum-known-call-7
+enum-known-call-7 c = search needs
+
+take-pulse-requires : tie.Need-take-pulse-requires
+take-pulse-requires c κs = tt
+
+without-byte-requires-6 : tie.Need-without-byte-requires-6
+without-byte-requires-6 c κs = tt
+
 returns : tie.Need-returns
 unfolding made
 returns c =
@@ -85,6 +94,11 @@ unfolding made
 returns-6 c =
     rw (c .before .before .before .call6 .given .1) (c .without-byte5 .ensures ∙ ap withoutByte (c .before .write-word .ensures))
 
+returns-7 : tie.Need-returns-7
+unfolding made
+returns-7 c =
+    rw (c .before .before .before .call7 .given .1) (c .without-byte6 .ensures ∙ ap withoutByte (c .before .take-pulse .ensures))
+
 pub make-spec : {M : Type 1} → statement M
 make-spec =
     tie.close
@@ -106,9 +120,13 @@ make-spec =
     enum-known-call-6
     write-word-requires
     without-byte-requires-5
+    enum-known-call-7
+    take-pulse-requires
+    without-byte-requires-6
     returns
     returns-2
     returns-3
     returns-4
     returns-5
-    returns-6)
+    returns-6
+    returns-7)

@@ -42,6 +42,12 @@ tach-reply-requires c κs = tt
 enum-told-7 : tie.Need-enum-told-7
 enum-told-7 c = search needs
 
+pulse-reply-requires : tie.Need-pulse-reply-requires
+pulse-reply-requires c κs = tt
+
+enum-told-8 : tie.Need-enum-told-8
+enum-told-8 c = search needs
+
 pin-reply-requires : tie.Need-pin-reply-requires
 pin-reply-requires c κs = tt
 
@@ -85,7 +91,13 @@ same-length-7 : tie.Need-same-length-7
 same-length-7 c = search needs
 
 returns-7 : tie.Need-returns-7
-returns-7 c = rw (c .before .before .before .before .enum-told7 .given .1) (c .before .before .pin-reply .ensures)
+returns-7 c = rw (c .before .before .before .before .enum-told7 .given .1) (c .before .before .pulse-reply .ensures)
+
+same-length-8 : tie.Need-same-length-8
+same-length-8 c = search needs
+
+returns-8 : tie.Need-returns-8
+returns-8 c = rw (c .before .before .before .before .enum-told8 .given .1) (c .before .before .pin-reply .ensures)
 
 pub device-reply-spec : {M : Type 1} → statement M
 device-reply-spec =
@@ -104,6 +116,8 @@ device-reply-spec =
     enum-told-6
     tach-reply-requires
     enum-told-7
+    pulse-reply-requires
+    enum-told-8
     pin-reply-requires
     same-length
     returns
@@ -118,4 +132,6 @@ device-reply-spec =
     same-length-6
     returns-6
     same-length-7
-    returns-7)
+    returns-7
+    same-length-8
+    returns-8)

@@ -58,6 +58,15 @@ slice-aggregate-put-numbers-6 c = search needs
 put-numbers-requires-6 : tie.Need-put-numbers-requires-6
 put-numbers-requires-6 c κs = tt
 
+enum-known-order-7 : tie.Need-enum-known-order-7
+enum-known-order-7 c = search needs
+
+slice-aggregate-put-numbers-7 : tie.Need-slice-aggregate-put-numbers-7
+slice-aggregate-put-numbers-7 c = search needs
+
+put-numbers-requires-7 : tie.Need-put-numbers-requires-7
+put-numbers-requires-7 c κs = tt
+
 same-length : tie.Need-same-length
 same-length c = search needs
 
@@ -100,6 +109,13 @@ returns-6 : tie.Need-returns-6
 unfolding encoded
 returns-6 c = rw (c .before .before .before .before .before .before .order6 .given .1) (c .before .before .put-numbers6 .ensures)
 
+same-length-7 : tie.Need-same-length-7
+same-length-7 c = search needs
+
+returns-7 : tie.Need-returns-7
+unfolding encoded
+returns-7 c = rw (c .before .before .before .before .before .before .order7 .given .1) (c .before .before .put-numbers7 .ensures)
+
 pub encode-spec : {M : Type 1} → statement M
 encode-spec =
     tie.close
@@ -122,6 +138,9 @@ encode-spec =
     enum-known-order-6
     slice-aggregate-put-numbers-6
     put-numbers-requires-6
+    enum-known-order-7
+    slice-aggregate-put-numbers-7
+    put-numbers-requires-7
     same-length
     returns
     same-length-2
@@ -133,4 +152,6 @@ encode-spec =
     same-length-5
     returns-5
     same-length-6
-    returns-6)
+    returns-6
+    same-length-7
+    returns-7)

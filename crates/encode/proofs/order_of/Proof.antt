@@ -15,8 +15,8 @@ level false = refl
 enum-known-call : tie.Need-enum-known-call
 enum-known-call c = search needs
 
-cast-t12 : tie.Need-cast-t12
-cast-t12 c = search needs
+cast-t13 : tie.Need-cast-t13
+cast-t13 c = search needs
 
 enum-known-call-2 : tie.Need-enum-known-call-2
 enum-known-call-2 c = search needs
@@ -30,14 +30,17 @@ enum-known-call-4 c = search needs
 enum-known-call-5 : tie.Need-enum-known-call-5
 enum-known-call-5 c = search needs
 
-cast-t13 : tie.Need-cast-t13
-cast-t13 c = search needs
+cast-t14 : tie.Need-cast-t14
+cast-t14 c = search needs
 
 enum-known-call-6 : tie.Need-enum-known-call-6
 enum-known-call-6 c = search needs
 
-cast-t14 : tie.Need-cast-t14
-cast-t14 c = search needs
+cast-t15 : tie.Need-cast-t15
+cast-t15 c = search needs
+
+enum-known-call-7 : tie.Need-enum-known-call-7
+enum-known-call-7 c = search needs
 
 returns : tie.Need-returns
 unfolding orderOf
@@ -63,22 +66,28 @@ returns-6 : tie.Need-returns-6
 unfolding orderOf
 returns-6 c = rw (c .before .call6 .given .1)
 
+returns-7 : tie.Need-returns-7
+unfolding orderOf
+returns-7 c = rw (c .before .call7 .given .1)
+
 pub order-of-spec : {M : Type 1} → statement M
 order-of-spec =
     tie.close
     (tie.spec
     enum-known-call
-    cast-t12
+    cast-t13
     enum-known-call-2
     enum-known-call-3
     enum-known-call-4
     enum-known-call-5
-    cast-t13
-    enum-known-call-6
     cast-t14
+    enum-known-call-6
+    cast-t15
+    enum-known-call-7
     returns
     returns-2
     returns-3
     returns-4
     returns-5
-    returns-6)
+    returns-6
+    returns-7)

@@ -5,10 +5,10 @@ use Rattle.every_call.proofs.sum_of.Statement.{statement}
 use Rattle.every_call.proofs.sum_of.Tie as tie
 
 abbrev Inv-loop : tie.InvT-loop
-Inv-loop again sum₀ i₀ sum i = i ≤ 68
+Inv-loop again sum₀ i₀ sum i = i ≤ 75
 
 abbrev μ-loop : tie.MeasureT-loop
-μ-loop again sum₀ i₀ sum i = 68 - i
+μ-loop again sum₀ i₀ sum i = 75 - i
 
 numbers-of-requires : tie.Need-numbers-of-requires Inv-loop μ-loop
 numbers-of-requires c κs = tt

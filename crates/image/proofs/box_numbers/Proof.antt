@@ -46,6 +46,9 @@ of-word-requires-2 c κs = tt
 of-byte-requires-7 : tie.Need-of-byte-requires-7
 of-byte-requires-7 c κs = tt
 
+of-byte-requires-8 : tie.Need-of-byte-requires-8
+of-byte-requires-8 c κs = tt
+
 returns : tie.Need-returns
 unfolding Within
 returns c = record { each = cc; within = omega arith }
@@ -68,4 +71,5 @@ box-numbers-spec =
     of-byte-requires-6
     of-word-requires-2
     of-byte-requires-7
+    of-byte-requires-8
     returns)

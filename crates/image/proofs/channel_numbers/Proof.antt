@@ -31,6 +31,9 @@ of-byte-requires-3 c κs = tt
 of-byte-requires-4 : tie.Need-of-byte-requires-4
 of-byte-requires-4 c κs = tt
 
+of-byte-requires-5 : tie.Need-of-byte-requires-5
+of-byte-requires-5 c κs = tt
+
 returns : tie.Need-returns
 unfolding Within
 returns c = record { each = cc; within = omega arith }
@@ -48,4 +51,5 @@ channel-numbers-spec =
     of-word-requires-5
     of-byte-requires-3
     of-byte-requires-4
+    of-byte-requires-5
     returns)

@@ -12,6 +12,9 @@ byte-requires-2 c κs = tt
 byte-requires-3 : tie.Need-byte-requires-3
 byte-requires-3 c κs = tt
 
+byte-requires-4 : tie.Need-byte-requires-4
+byte-requires-4 c κs = tt
+
 word-requires : tie.Need-word-requires
 word-requires c κs = tt
 
@@ -21,8 +24,8 @@ word-requires-2 c κs = tt
 word-requires-3 : tie.Need-word-requires-3
 word-requires-3 c κs = tt
 
-byte-requires-4 : tie.Need-byte-requires-4
-byte-requires-4 c κs = tt
+byte-requires-5 : tie.Need-byte-requires-5
+byte-requires-5 c κs = tt
 
 word-requires-4 : tie.Need-word-requires-4
 word-requires-4 c κs = tt
@@ -41,10 +44,11 @@ channel-of-spec =
     byte-requires
     byte-requires-2
     byte-requires-3
+    byte-requires-4
     word-requires
     word-requires-2
     word-requires-3
-    byte-requires-4
+    byte-requires-5
     word-requires-4
     word-requires-5
     returns)

@@ -15,10 +15,13 @@ word-requires c κs = tt
 byte-requires-3 : tie.Need-byte-requires-3
 byte-requires-3 c κs = tt
 
+byte-requires-4 : tie.Need-byte-requires-4
+byte-requires-4 c κs = tt
+
 returns : tie.Need-returns
 unfolding startFrom
 returns c = cc
 
 pub start-of-spec : {M : Type 1} → statement M
 start-of-spec =
-    tie.close (tie.spec byte-requires byte-requires-2 word-requires byte-requires-3 returns)
+    tie.close (tie.spec byte-requires byte-requires-2 word-requires byte-requires-3 byte-requires-4 returns)

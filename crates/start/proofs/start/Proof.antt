@@ -41,17 +41,8 @@ returns-3 c =
     simp (lt-ltb _ 4 (c .before .before .before .before .if1 .left), lt-ltb _ 4 (c .before .before .before .if2 .left), le-ltb _ 512 (c .before .before .if3 .taken))
     (rw (c .before .zero-state3 .ensures) at (c .answered3 .ensures))
 
-cast-t10 : tie.Need-cast-t10
-cast-t10 c = search needs
-
-cast-t11 : tie.Need-cast-t11
-cast-t11 c = search needs
-
-cast-t12 : tie.Need-cast-t12
-cast-t12 c = search needs
-
-as-at-start-requires : tie.Need-as-at-start-requires
-as-at-start-requires c κs = tt
+zero-state-requires-4 : tie.Need-zero-state-requires-4
+zero-state-requires-4 c κs = tt
 
 answered-requires-4 : tie.Need-answered-requires-4
 answered-requires-4 c κs = tt
@@ -59,8 +50,34 @@ answered-requires-4 c κs = tt
 returns-4 : tie.Need-returns-4
 unfolding startOf validStart
 returns-4 c =
-    simp (lt-ltb _ 4 (c .before .before .before .before .if1 .left), lt-ltb _ 4 (c .before .before .before .if2 .left), lt-ltb _ 512 (c .before .before .if3 .left))
-    (rw (c .before .as-at-start .ensures) at (c .answered4 .ensures))
+    let if3 = c .before .before .before in
+    simp (lt-ltb _ 4 (if3 .before .before .if1 .left), lt-ltb _ 4 (if3 .before .if2 .left), lt-ltb _ 512 (if3 .if3 .left), le-ltb _ 2 (c .before .before .if4 .taken))
+    (rw (c .before .zero-state4 .ensures) at (c .answered4 .ensures))
+
+cast-t12 : tie.Need-cast-t12
+cast-t12 c = search needs
+
+cast-t13 : tie.Need-cast-t13
+cast-t13 c = search needs
+
+cast-t14 : tie.Need-cast-t14
+cast-t14 c = search needs
+
+cast-t15 : tie.Need-cast-t15
+cast-t15 c = search needs
+
+as-at-start-requires : tie.Need-as-at-start-requires
+as-at-start-requires c κs = tt
+
+answered-requires-5 : tie.Need-answered-requires-5
+answered-requires-5 c κs = tt
+
+returns-5 : tie.Need-returns-5
+unfolding startOf validStart
+returns-5 c =
+    let if3 = c .before .before .before in
+    simp (lt-ltb _ 4 (if3 .before .before .if1 .left), lt-ltb _ 4 (if3 .before .if2 .left), lt-ltb _ 512 (if3 .if3 .left), lt-ltb _ 2 (c .before .before .if4 .left))
+    (rw (c .before .as-at-start .ensures) at (c .answered5 .ensures))
 
 pub start-spec : {M : Type 1} → statement M
 start-spec =
@@ -75,9 +92,13 @@ start-spec =
     zero-state-requires-3
     answered-requires-3
     returns-3
-    cast-t10
-    cast-t11
-    cast-t12
-    as-at-start-requires
+    zero-state-requires-4
     answered-requires-4
-    returns-4)
+    returns-4
+    cast-t12
+    cast-t13
+    cast-t14
+    cast-t15
+    as-at-start-requires
+    answered-requires-5
+    returns-5)

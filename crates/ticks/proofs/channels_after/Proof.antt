@@ -4,6 +4,9 @@ use mathlib.Core.Path.{_≡_, refl}
 use native.Mathlib.Omega.{arith}
 use lib.ListN.{length}
 use borrow.Author.Needs.{needs}
+use borrow.Author.Tests.{leb-true}
+use Rattle.rules.proofs.Tests.{every-at}
+use Rattle.laws.proofs.Valid.{fewPulses}
 use Rattle.rules.specs.State.{blank}
 use Rattle.rules.specs.Tick.{overridden}
 use Rattle.laws.proofs.Each.{Filled, filled-none, filled-more, filled-all}
@@ -33,7 +36,9 @@ overridden-requires : tie.Need-overridden-requires Inv-loop μ-loop
 overridden-requires c κs = tt
 
 channel-after-requires : tie.Need-channel-after-requires Inv-loop μ-loop
-channel-after-requires c κs = tt
+channel-after-requires c κs =
+    let l = c .before .before .before in
+    leb-true _ _ (every-at fewPulses (l .before .args .t2) (l .loop .i) blank refl (l .before .pre))
 
 mul-next : tie.Need-mul-next Inv-loop μ-loop
 mul-next c = omega arith

@@ -6,6 +6,8 @@ use Prim.Native.Nat.{_^_, _<_}
 use mathlib.Core.Bool.{true}
 use mathlib.Core.Path.{_≡_, sym, _∙_}
 use borrow.Author.Needs.{needs}
+use Rattle.rules.specs.Basics.{every}
+use Rattle.laws.proofs.Valid.{fewPulses, few-pulses}
 use Rattle.ticks.proofs.passed.Statement.{statement}
 use Rattle.ticks.proofs.passed.Tie as tie
 
@@ -13,10 +15,18 @@ use Rattle.ticks.proofs.passed.Tie as tie
 clock-fits : (c : tie.Start) → c .args .state .timer .clock < 2 ^ 32
 clock-fits c = search needs
 
+-- a valid state's channels
+few : (c : tie.Start) → every fewPulses (c .args .state .channels) ≡ true
+few c = few-pulses (c .args .state) (c .pre)
+
 -- where the watchdog counts
 module _ (c : tie.Then1) where
   counts : counting (c .before .before .before .before .before .before .args .state) ≡ true
   counts = sym (c .before .is-counting .ensures) ∙ c .if1 .taken
+
+  -- its channels
+  few-counting : every fewPulses (c .before .before .before .before .before .before .args .state .channels) ≡ true
+  few-counting = few (c .before .before .before .before .before .before)
 
   -- a valid state's idle count is below the limit then
   below : c .before .before .before .before .before .before .args .state .timer .idle < idleLimit (c .before .before .before .before .before .before .args .state)
@@ -44,7 +54,7 @@ cast-if2 : tie.Need-cast-if2
 cast-if2 c = search needs
 
 channels-after-requires : tie.Need-channels-after-requires
-channels-after-requires c κs = tt
+channels-after-requires c κs = few-counting (c .before .before .before)
 
 cast-timed : tie.Need-cast-timed
 cast-timed c = search needs
@@ -68,7 +78,7 @@ cast-channels-after : tie.Need-cast-channels-after
 cast-channels-after c = search needs
 
 channels-after-requires-2 : tie.Need-channels-after-requires-2
-channels-after-requires-2 c κs = tt
+channels-after-requires-2 c κs = few-counting (c .before .before .before)
 
 timed-requires-2 : tie.Need-timed-requires-2
 timed-requires-2 c κs = tt
@@ -83,7 +93,7 @@ returns-2 c =
     (sym (expiring-ticks (start .args .state) (counts on) (below on) (start .args .ticks) (omega (arith, limit, c .before .before .if2 .left))))
 
 channels-after-requires-3 : tie.Need-channels-after-requires-3
-channels-after-requires-3 c κs = tt
+channels-after-requires-3 c κs = few (c .before .before .before .before .before .before)
 
 timed-requires-3 : tie.Need-timed-requires-3
 timed-requires-3 c κs = tt

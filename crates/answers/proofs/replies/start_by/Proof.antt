@@ -15,11 +15,14 @@ value-requires-3 c κs = tt
 byte-requires : tie.Need-byte-requires
 byte-requires c κs = tt
 
+value-requires-4 : tie.Need-value-requires-4
+value-requires-4 c κs = tt
+
 start-requires : tie.Need-start-requires
 start-requires c κs = tt
 
 returns : tie.Need-returns
-returns c = rw (sym (c .before .before .before .before .value .ensures), sym (c .before .before .before .value2 .ensures), sym (c .before .before .value3 .ensures), sym (c .before .byte .ensures)) (c .start .ensures)
+returns c = rw (sym (c .before .before .before .before .before .value .ensures), sym (c .before .before .before .before .value2 .ensures), sym (c .before .before .before .value3 .ensures), sym (c .before .before .byte .ensures), sym (c .before .value4 .ensures)) (c .start .ensures)
 
 pub start-by-spec : {M : Type 1} → statement M
 start-by-spec =
@@ -29,5 +32,6 @@ start-by-spec =
     value-requires-2
     value-requires-3
     byte-requires
+    value-requires-4
     start-requires
     returns)

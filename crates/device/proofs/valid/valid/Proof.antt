@@ -3,6 +3,12 @@ use Rattle.rules.specs.Valid.{validOf}
 use Rattle.device.proofs.valid.valid.Statement.{statement}
 use Rattle.device.proofs.valid.valid.Tie as tie
 
+ends-early-requires : tie.Need-ends-early-requires
+ends-early-requires c κs = tt
+
+valid-pulses-requires : tie.Need-valid-pulses-requires
+valid-pulses-requires c κs = tt
+
 valid-registers-requires : tie.Need-valid-registers-requires
 valid-registers-requires c κs = tt
 
@@ -25,6 +31,8 @@ returns : tie.Need-returns
 unfolding validOf
 returns c =
     simp (
+      c .before .before .before .before .before .before .before .ends-early .ensures,
+      c .before .before .before .before .before .before .valid-pulses .ensures,
       c .before .before .before .before .before .valid-registers .ensures,
       c .before .before .before .before .valid-start .ensures,
       c .before .before .before .watchdog-code .ensures,
@@ -37,6 +45,8 @@ pub valid-spec : {M : Type 1} → statement M
 valid-spec =
     tie.close
     (tie.spec
+    ends-early-requires
+    valid-pulses-requires
     valid-registers-requires
     valid-start-requires
     watchdog-code-requires

@@ -47,9 +47,16 @@ returns-6 : tie.Need-returns-6
 unfolding kindOf
 returns-6 c = search (needs, tests)
 
+begin-requires-7 : tie.Need-begin-requires-7
+begin-requires-7 c κs = tt
+
 returns-7 : tie.Need-returns-7
 unfolding kindOf
 returns-7 c = search (needs, tests)
+
+returns-8 : tie.Need-returns-8
+unfolding kindOf
+returns-8 c = search (needs, tests)
 
 pub take-kind-spec : {M : Type 1} → statement M
 take-kind-spec =
@@ -67,4 +74,6 @@ take-kind-spec =
     returns-5
     begin-requires-6
     returns-6
-    returns-7)
+    begin-requires-7
+    returns-7
+    returns-8)

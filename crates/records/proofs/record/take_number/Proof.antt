@@ -55,6 +55,9 @@ enum-known-stage-3 c = search needs
 take-word-requires : tie.Need-take-word-requires
 take-word-requires c κs = tt
 
+enum-told-8 : tie.Need-enum-told-8
+enum-told-8 c = search needs
+
 returns : tie.Need-returns
 unfolding numberOf
 returns c = rw (c .before .enum-told .given .1) (c .take-kind .ensures)
@@ -95,6 +98,10 @@ returns-10 : tie.Need-returns-10
 unfolding numberOf
 returns-10 c = rw (c .before .before .stage3 .given .1) (c .take-word .ensures)
 
+returns-11 : tie.Need-returns-11
+unfolding numberOf
+returns-11 c = rw (c .enum-told8 .given .1)
+
 pub take-number-spec : {M : Type 1} → statement M
 take-number-spec =
     tie.close
@@ -116,6 +123,7 @@ take-number-spec =
     begin-requires-3
     enum-known-stage-3
     take-word-requires
+    enum-told-8
     returns
     returns-2
     returns-3
@@ -125,4 +133,5 @@ take-number-spec =
     returns-7
     returns-8
     returns-9
-    returns-10)
+    returns-10
+    returns-11)

@@ -60,7 +60,7 @@ sub-ramped c = search needs
 ramped-requires : tie.Need-ramped-requires
 ramped-requires c κs =
     let start = c .before .before .before .before .before .before in
-    (start .pre .0, full-not-due (start .args .channel) (start .args .channel .spin), omega (arith, start .pre .1))
+    (start .pre .0, full-not-due (start .args .channel) (start .args .channel .spin) 0, omega (arith, start .pre .1))
 
 returns-3 : tie.Need-returns-3
 returns-3 c =

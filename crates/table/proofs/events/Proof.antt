@@ -1,14 +1,14 @@
--- `calls` meets its contract, by computation. Assumes nothing.
+-- `events` meets its contract, by computation. Assumes nothing.
 use mathlib.Core.Path.{refl}
 use Rattle.text.specs.Words.{runOf}
 use Rattle.image.specs.Image.{channelsLimits, limits}
 use Rattle.table.specs.Table.{commands, stateNumbers}
-use Rattle.table.proofs.calls.Statement.{statement}
-use Rattle.table.proofs.calls.Tie as tie
+use Rattle.table.proofs.events.Statement.{statement}
+use Rattle.table.proofs.events.Tie as tie
 
 returns : tie.Need-returns
 unfolding commands stateNumbers limits channelsLimits runOf
 returns c = refl
 
-pub calls-spec : {M : Type 1} → statement M
-calls-spec = tie.close (tie.spec returns)
+pub events-spec : {M : Type 1} → statement M
+events-spec = tie.close (tie.spec returns)
