@@ -1,35 +1,37 @@
 -- Pulses do nothing in a box of modification A, and two of them end a running spin-up in a box of B.
-use Prim.Native.Nat.{ℕ, _+_, _-_, _≤_, _<_}
+use Prim.Native.Nat.{ℕ, zero, suc, _+_, _-_, _≤_, _<_}
 use mathlib.Core.Path.{_≡_, refl, sym, _∙_, ap}
-use mathlib.Core.Bool.{Bool, true, false, not, _&&_, false≢true}
+use mathlib.Core.Bool.{Bool, true, false, false≢true}
 use mathlib.Core.List.{List, [], _∷_}
+use native.Mathlib.Decide.{decLt}
 use native.Mathlib.Omega.{arith}
-use lib.Dec.{ltb, eqb, lit<}
-use lib.ListN.{length, length-set, length-map}
+use lib.Dec.{leb, ltb, eqb, lit<}
+use lib.ListN.{length, getD, length-set, length-map}
 use lib.Seq.{getD-set-same, set-getD}
-use borrow.Author.Tests.{lt-ltb, le-leb, eqb-false}
+use borrow.Author.Tests.{lt-ltb, le-leb, leb-true, eqb-true, eqb-false}
 use Rattle.demands.specs.Types.{Channel, State, Answer, Call, Write, Read, Ticks, Tachometer, Pin, WriteWord, Pulse}
+use Rattle.rules.specs.Basics.{_implies_}
 use Rattle.rules.specs.State.{blank, channel, withMotion, withChannels}
-use Rattle.rules.specs.Registers.{spinCode, watchdogCode}
+use Rattle.rules.specs.Registers.{spinCode, rateCode, watchdogCode, standby}
 use Rattle.rules.specs.Time.{spinTicks, endsEarly, watchdogLimit}
 use Rattle.rules.specs.Duty.{conditionsOf, overrideBy}
 use Rattle.rules.specs.Calls.{isChannel}
 use Rattle.rules.specs.Valid.{validChannel, validPulses, validRegisters, validStart, validTimer, validOf}
 use Rattle.rules.specs.Start.{startOf}
+use Rattle.rules.specs.Pin.{pinOf}
 use Rattle.rules.specs.Tick.{wanted, spinUpDue, overridden, idleLimit, timerTick, toward, channelTick, channelsTick, tick, iterate, ticksPassed}
 use Rattle.rules.specs.Pulse.{pulsed, withPulse, pulseOf}
 use Rattle.rules.specs.Make.{made, madeEach, afterEach}
-use Rattle.rules.proofs.Tests.{by-test, choice}
-use Rattle.laws.proofs.ChannelTicks.{channelTicks, ticks-within, ticks-due-within}
-use Rattle.laws.proofs.StateTicks.{counting, counting-live, channelsAfter, ahead, ticks-ahead, ahead-conditions, ahead-idle}
-use Rattle.laws.proofs.Results.{pulse-valid, pulse-no-access}
+use Rattle.rules.proofs.Tests.{by-test, choice, every-at}
+use Rattle.laws.proofs.Each.{map-at}
+use Rattle.laws.proofs.Valid.{parts, parts-of-channel, four, fewPulses, few-pulses}
+use Rattle.laws.proofs.ChannelTicks.{channelTicks, ticks-held, ticks-at-once, ticks-ramp, ticks-within, ticks-past, ticks-due-within, full-not-due}
+use Rattle.laws.proofs.StateTicks.{counting, counting-live, counting-below, channelsAfter, ahead, ticks-ahead, expiring-ticks}
 use Rattle.laws.proofs.Keep.{calls-keep, passed-valid}
 use Rattle.laws.proofs.PinSet.{start-stays}
-use Rattle.demands.specs.Elapsed.{dutyAt}
 use Rattle.demands.specs.Trials.{OneOfSix}
-use Rattle.demands.specs.Pulses.{isPulse, withoutPulses, answersBeside, AsWithoutPulses, StartsSpinUp, firstPulse, EndsEarly}
+use Rattle.demands.specs.Pulses.{isPulse, withoutPulses, answersBeside, AsWithoutPulses, SpinsUp, HasEnded, firstPulse, bothPulses, EndsEarly, StartsSpinUp, started, HasStarted}
 use Rattle.demands.proofs.Elapsed.{free-duty, channel-ahead}
-use Rattle.demands.proofs.Queue.{some-set}
 
 -- ---- A
 
@@ -87,190 +89,193 @@ ignored-example = (refl, refl, refl)
 
 -- ---- B
 
--- a pulse on one of six channels
-module _ (s : State) (i : ℕ) (o : OneOfSix s i) (early : endsEarly (s .start .modification) ≡ true) where
+-- of a channel with spin-up time left: "a running spin-up has ramp value 511", and no more pulses are counted than ticks are left
+module _ (s : State) (i : ℕ) (valid : validOf s ≡ true) where
+  full : 0 < channel s i .spin → channel s i .ramp ≡ 511
+  full some =
+      let motion = parts-of-channel (standby (s .registers .control)) (s .channels) i (parts s valid .channels) .motion in
+      let last : (ltb 0 (channel s i .spin) implies eqb (channel s i .ramp) 511) ≡ true =
+      four (ltb (channel s i .ramp) 512) (leb (channel s i .spin) 1024) _ _ motion .3 in
+      eqb-true (channel s i .ramp) 511 (rw (lt-ltb 0 (channel s i .spin) some) at last)
+
+  few : channel s i .pulses ≤ channel s i .spin
+  few = leb-true _ _ (every-at fewPulses (s .channels) i blank refl (few-pulses s valid))
+
+-- a call leaves a box of B as one, and all its channels: time is left where it is left
+runs-after : (s : State) (i : ℕ) (call : Call) → OneOfSix s i → endsEarly (s .start .modification) ≡ true →
+    length (made s call .state .channels) ≡ length (s .channels) → 0 < channel (made s call .state) i .spin → SpinsUp (made s call .state) i
+runs-after s i call o early long left =
+    record {
+      channel-is = record { is-valid = calls-keep s call .valid (o .is-valid); six = long ∙ o .six; below = o .below };
+      ends-early = ap (λ v. endsEarly (v .modification)) (start-stays s call) ∙ early;
+      remains = left;
+    }
+
+-- a pulse on a channel with spin-up time left
+abbrev afterPulse : State → ℕ → State
+afterPulse s i = made s (Pulse (i + 1)) .state
+
+module _ (s : State) (i : ℕ) (c : SpinsUp s i) where
   pulse-at : made s (Pulse (i + 1)) .state ≡ withPulse s i
   unfolding made pulseOf
   pulse-at =
+      let o = c .channel-is in
       let back : i + 1 - 1 ≡ i = omega arith in
       rw (o .is-valid, le-leb 1 (i + 1) (omega arith), le-leb (i + 1) 6 (omega (arith, o .below)), back) refl
 
-  pulse-channel : channel (made s (Pulse (i + 1)) .state) i ≡ pulsed true (channel s i)
+  pulse-channel : channel (afterPulse s i) i ≡ pulsed true (channel s i)
   pulse-channel =
       ap (λ x. channel x i) pulse-at
-      ∙ getD-set-same (s .channels) i _ blank (omega (arith, o .below, o .six))
-      ∙ ap (λ b. pulsed b (channel s i)) early
+      ∙ getD-set-same (s .channels) i _ blank (omega (arith, c .channel-is .below, c .channel-is .six))
+      ∙ ap (λ b. pulsed b (channel s i)) (c .ends-early)
 
-  still-six : OneOfSix (made s (Pulse (i + 1)) .state) i
-  unfolding made
-  still-six =
-      record {
-        is-valid = pulse-valid s (o .is-valid) (i + 1);
-        six = ap (λ (x : State). length (x .channels)) pulse-at ∙ length-set (s .channels) i _ ∙ o .six;
-        below = o .below;
-      }
-
-  -- no override looks at what it changes
-  same-fault : (b : Bool) (ch : Channel) → pulsed b ch .fault ≡ ch .fault
+  -- the first
+  first-counts : channel s i .pulses ≡ 0 → channel (afterPulse s i) i ≡ withMotion (channel s i) 511 (channel s i .spin) 1
   unfolding pulsed
-  same-fault b ch =
-      choice (λ (x : Channel). x .fault ≡ ch .fault) (not (b && ltb 0 (ch .spin))) _ _ (λ _. refl) λ _.
-      choice (λ (x : Channel). x .fault ≡ ch .fault) (eqb (ch .pulses) 0) _ _ (λ _. refl) (λ _. refl)
+  first-counts none =
+      pulse-channel ∙ rw (lt-ltb 0 (channel s i .spin) (c .remains), none)
+      (ap (λ ramp. withMotion (channel s i) ramp (channel s i .spin) 1) (full s i (c .channel-is .is-valid) (c .remains)))
 
-  same-conditions : conditionsOf (made s (Pulse (i + 1)) .state) ≡ conditionsOf s
-  unfolding conditionsOf
-  same-conditions =
-      ap conditionsOf pulse-at
-      ∙ rw (some-set (λ (ch : Channel). ch .fault) (s .channels) i (pulsed (endsEarly (s .start .modification)) (channel s i)) blank (same-fault _ (channel s i))) refl
-
--- ticks that the watchdog does not end, on a channel with no override in force
-module _ (s : State) (i : ℕ) (o : OneOfSix s i) (free : overridden (conditionsOf s) (channel s i) ≡ false) (n : ℕ)
-    (short : counting s ≡ true → s .timer .idle + n < idleLimit s) where
-  passed-is : made s (Ticks n) .state ≡ ahead s n
-  unfolding made
-  passed-is = ap (λ (a : Answer). a .state) (passed-valid s n (o .is-valid)) ∙ ticks-ahead s n short
-
-  passed-channel : channel (made s (Ticks n) .state) i ≡ channelTicks false n (s .timer .clock) (channel s i)
-  passed-channel = ap (λ x. channel x i) passed-is ∙ channel-ahead s i (omega (arith, o .below, o .six)) free n
-
-  passed-conditions : conditionsOf (made s (Ticks n) .state) ≡ conditionsOf s
-  passed-conditions = ap conditionsOf passed-is ∙ ahead-conditions s n
-
-  passed-six : OneOfSix (made s (Ticks n) .state) i
-  unfolding ahead channelsAfter
-  passed-six =
-      record {
-        is-valid = calls-keep s (Ticks n) .valid (o .is-valid);
-        six = ap (λ (x : State). length (x .channels)) passed-is ∙ length-map (s .channels) _ ∙ o .six;
-        below = o .below;
-      }
-
-  -- the watchdog has counted them, where it counts
-  passed-idle : counting (made s (Ticks n) .state) ≡ true →
-      (counting s ≡ true) × (made s (Ticks n) .state .timer .idle ≡ s .timer .idle + n)
-  unfolding ahead
-  passed-idle on =
-      let then : counting (ahead s n) ≡ true = sym (ap counting passed-is) ∙ on in
-      (then, ap (λ (x : State). x .timer .idle) passed-is ∙ ahead-idle s n then)
-
-module _ (s : State) (i before between : ℕ) (c : StartsSpinUp s i (1 + before + between))
-    (within : before + between < spinTicks (spinCode (channel s i .config))) where
-  abbrev started : State
-  started = made s (Ticks (1 + before)) .state
-
-  abbrev counted : State
-  counted = made started (Pulse (i + 1)) .state
-
-  abbrev later : State
-  later = made counted (Ticks between) .state
-
-  abbrev time : ℕ
-  time = spinTicks (spinCode (channel s i .config))
-
-  none : (k : ℕ) → k ≤ 1 + before + between → counting s ≡ true → s .timer .idle + k < idleLimit s
-  none k h on =
-      let l = counting-live s on in
-      omega (arith, c .none-coming (eqb-false (watchdogCode (s .registers .control)) 0 (l .0)) (l .1))
-
-  started-channel : channel started i ≡ withMotion (channel s i) 511 (time - before) 0
-  started-channel =
-      let e : 1 + before - 1 ≡ before = omega arith in
-      passed-channel s i (c .channel-is) (c .not-overridden) (1 + before) (none (1 + before) (omega arith))
-      ∙ ticks-due-within (1 + before) (s .timer .clock) (channel s i) (c .not-running) (c .due) (omega arith) (omega arith)
-      ∙ ap (λ m. withMotion (channel s i) 511 (time - m) 0) e
-
-  started-six : OneOfSix started i
-  started-six = passed-six s i (c .channel-is) (c .not-overridden) (1 + before) (none (1 + before) (omega arith))
-
-  started-early : endsEarly (started .start .modification) ≡ true
-  started-early = ap (λ v. endsEarly (v .modification)) (start-stays s (Ticks (1 + before))) ∙ c .ends-early
-
-  -- the first pulse
-  counted-channel : channel counted i ≡ withMotion (channel s i) 511 (time - before) 1
-  unfolding pulsed
-  counted-channel =
-      pulse-channel started i started-six started-early ∙ ap (pulsed true) started-channel
-      ∙ rw (lt-ltb 0 (time - before) (omega arith)) refl
-
-  counted-conditions : conditionsOf counted ≡ conditionsOf s
-  counted-conditions =
-      same-conditions started i started-six started-early
-      ∙ passed-conditions s i (c .channel-is) (c .not-overridden) (1 + before) (none (1 + before) (omega arith))
-
-  counted-early : endsEarly (counted .start .modification) ≡ true
-  counted-early = ap (λ v. endsEarly (v .modification)) (start-stays started (Pulse (i + 1))) ∙ started-early
-
-  counted-free : overridden (conditionsOf counted) (channel counted i) ≡ false
-  unfolding overrideBy
-  counted-free = rw (counted-conditions, counted-channel) (c .not-overridden)
-
-  -- it is no access, so the watchdog has counted the ticks before it alone
-  counted-timer : counted .timer ≡ started .timer
-  unfolding made
-  counted-timer = pulse-no-access started (i + 1) .timer
-
-  counted-registers : counted .registers ≡ s .registers
-  unfolding made ahead
-  counted-registers =
-      pulse-no-access started (i + 1) .registers
-      ∙ ap (λ (x : State). x .registers) (passed-is s i (c .channel-is) (c .not-overridden) (1 + before) (none (1 + before) (omega arith)))
-
-  short : counting counted ≡ true → counted .timer .idle + between < idleLimit counted
-  unfolding made
-  short on =
-      let same : counting counted ≡ counting started = rw (counted-timer, pulse-no-access started (i + 1) .registers) refl in
-      let t = passed-idle s i (c .channel-is) (c .not-overridden) (1 + before) (none (1 + before) (omega arith)) (sym same ∙ on) in
-      let most = none (1 + before + between) (omega arith) (t .0) in
-      rw (counted-timer, counted-registers, t .1) (omega (arith, most))
-
-  counted-six : OneOfSix counted i
-  counted-six = still-six started i started-six started-early
-
-  later-channel : channel later i ≡ withMotion (channel s i) 511 (time - before - between) 1
-  later-channel =
-      let running = withMotion (channel s i) 511 (time - before) 1 in
-      passed-channel counted i counted-six counted-free between short
-      ∙ ap (channelTicks false between (counted .timer .clock)) counted-channel
-      ∙ ticks-within between (counted .timer .clock) running (omega arith) (omega arith)
+  first-runs : channel s i .pulses ≡ 0 → SpinsUp (afterPulse s i) i
+  first-runs none =
+      runs-after s i (Pulse (i + 1)) (c .channel-is) (c .ends-early)
+      (ap (λ (x : State). length (x .channels)) pulse-at ∙ length-set (s .channels) i _)
+      (rw (first-counts none) (c .remains))
 
   -- the second
-  abbrev ended : State
-  ended = made later (Pulse (i + 1)) .state
-
-  later-six : OneOfSix later i
-  later-six = passed-six counted i counted-six counted-free between short
-
-  later-early : endsEarly (later .start .modification) ≡ true
-  later-early = ap (λ v. endsEarly (v .modification)) (start-stays counted (Ticks between)) ∙ counted-early
-
-  ended-channel : channel ended i ≡ withMotion (channel s i) 511 0 0
+  second-ends : channel s i .pulses ≡ 1 → channel (afterPulse s i) i ≡ withMotion (channel s i) 511 0 0
   unfolding pulsed
-  ended-channel =
-      pulse-channel later i later-six later-early ∙ ap (pulsed true) later-channel
-      ∙ rw (lt-ltb 0 (time - before - between) (omega arith)) refl
+  second-ends one =
+      pulse-channel ∙ rw (lt-ltb 0 (channel s i .spin) (c .remains), one)
+      (ap (λ ramp. withMotion (channel s i) ramp 0 0) (full s i (c .channel-is .is-valid) (c .remains)))
 
-  ended-conditions : conditionsOf ended ≡ conditionsOf s
-  ended-conditions =
-      same-conditions later i later-six later-early
-      ∙ passed-conditions counted i counted-six counted-free between short ∙ counted-conditions
-
-  ended-duty : dutyAt ended i ≡ channel ended i .ramp
-  unfolding overrideBy
-  ended-duty =
-      free-duty (conditionsOf ended) (channel ended i) (rw (ended-conditions, ended-channel) (c .not-overridden)) (ap (λ (x : Channel). x .spin) ended-channel)
-
-  pub ends-early : EndsEarly s i before between
-  unfolding afterEach
-  ends-early = record { counted = later-channel; ended = ended-channel; duty = ended-duty }
-
--- from the start above, in a box of B: both pulses come within the 256 ticks, and the watchdog counts all along. After the first 226 ticks
--- are left; after the second the ramp goes on, and four ticks later it has left 511
-pub ends-early-example : StartsSpinUp (startedAs 1) 0 31 × EndsEarly (startedAs 1) 0 10 20
-    × (seenAfter (startedAs 1) (firstPulse (startedAs 1) 0 10 20) ≡ 226 ∷ 1 ∷ 511 ∷ []) × (seenAfter (startedAs 1) crossed ≡ 0 ∷ 0 ∷ 510 ∷ [])
-unfolding startOf afterEach made pulseOf pulsed validOf validRegisters validStart validTimer validChannel validPulses watchdogLimit ticksPassed iterate tick timerTick channelsTick channelTick conditionsOf overrideBy spinUpDue wanted spinTicks toward
-ends-early-example = (begins, ends-early (startedAs 1) 0 10 20 begins (lit< tt), refl, refl)
+-- a spin-up that ticks have ended stays ended: none is due at ramp value 511, and none comes due on the way to the target
+stays-ended : (m t : ℕ) (ch : Channel) → ch .spin ≡ 0 → spinUpDue ch ≡ false → channelTicks false m t ch .spin ≡ 0
+stays-ended m t ch z d =
+    by-test (eqb (rateCode (ch .dynamics)) 0) (λ e. at-once m (eqb-true _ 0 e))
+    (λ e. ap (λ (x : Channel). x .spin) (ticks-ramp t ch z d m (eqb-false _ 0 e)) ∙ z)
   where
-    begins : StartsSpinUp (startedAs 1) 0 31
+    at-once : (m : ℕ) → rateCode (ch .dynamics) ≡ 0 → channelTicks false m t ch .spin ≡ 0
+    at-once zero r = unfold channelTicks in z
+    at-once (suc m) r = ap (λ (x : Channel). x .spin) (ticks-at-once t ch z d m r) ∙ z
+
+-- so where time remains after ticks, they have left the count
+ticks-leave : (held : Bool) (m t : ℕ) (ch : Channel) → ch .ramp ≡ 511 → ch .pulses ≤ ch .spin → 0 < channelTicks held m t ch .spin →
+    channelTicks held m t ch ≡ withMotion ch 511 (channelTicks held m t ch .spin) (ch .pulses)
+ticks-leave true m t ch top few some = rw (ticks-held m t ch) (ap (λ ramp. withMotion ch ramp (ch .spin) (ch .pulses)) top)
+ticks-leave false m t ch top few some =
+    elim (decLt m (ch .spin)) [
+      | yes l ↦ rw (ticks-within m t ch few l) (ap (λ ramp. withMotion ch ramp (ch .spin - m) (ch .pulses)) top)
+      | no g ↦
+          let none : channelTicks false m t ch .spin ≡ 0 =
+          ap (λ (x : Channel). x .spin) (ticks-past m t ch few (omega arith))
+          ∙ stays-ended (m - ch .spin) (t + ch .spin) (withMotion ch (ch .ramp) 0 0) refl (rw top (full-not-due ch 0 0)) in
+          absurd (omega arith)
+    ]
+
+-- the channels after ticks, also where the watchdog expires within them: those of so many ticks under the overrides of now
+ticks-channels : (s : State) (n : ℕ) → validOf s ≡ true → (m : ℕ) × (made s (Ticks n) .state .channels ≡ channelsAfter m s)
+unfolding made ahead
+ticks-channels s n valid =
+    by-test (counting s)
+    (λ on. let below = counting-below s valid on in
+    elim (decLt (s .timer .idle + n) (idleLimit s)) [
+      | yes l ↦ (n, passed ∙ ap (λ (x : State). x .channels) (ticks-ahead s n (λ _. l)))
+      | no g ↦
+          (idleLimit s - s .timer .idle - 1, passed ∙ ap (λ (x : State). x .channels) (expiring-ticks s on below n (omega arith)))
+    ])
+    (λ off. (n, passed ∙ ap (λ (x : State). x .channels) (ticks-ahead s n (λ on. absurd (false≢true (sym off ∙ on))))))
+  where
+    passed : ticksPassed s n .state .channels ≡ iterate n tick s .channels
+    passed = ap (λ (a : Answer). a .state .channels) (passed-valid s n valid)
+
+ticks-long : (s : State) (n : ℕ) → validOf s ≡ true → length (made s (Ticks n) .state .channels) ≡ length (s .channels)
+unfolding channelsAfter
+ticks-long s n valid = ap length (ticks-channels s n valid .1) ∙ length-map (s .channels) _
+
+count-stays : (s : State) (i n : ℕ) → SpinsUp s i → let t = made s (Ticks n) .state in 0 < channel t i .spin →
+    channel t i ≡ withMotion (channel s i) 511 (channel t i .spin) (channel s i .pulses)
+unfolding channelsAfter
+count-stays s i n c left =
+    let o = c .channel-is in
+    let t = ticks-channels s n (o .is-valid) in
+    let e = ap (λ l. getD l i blank) (t .1)
+    ∙ map-at (λ x. channelTicks (overridden (conditionsOf s) x) (t .0) (s .timer .clock) x) (s .channels) i blank blank (omega (arith, o .below, o .six)) in
+    rw e (ticks-leave _ (t .0) (s .timer .clock) (channel s i) (full s i (o .is-valid) (c .remains)) (few s i (o .is-valid)) (rw e at left))
+
+-- a spin-up that is over has the ramp value as its duty
+has-ended : (s : State) (i : ℕ) (calls : List Call) → channel (afterEach s calls) i ≡ withMotion (channel s i) 511 0 0 → HasEnded s i calls
+has-ended s i calls e =
+    record {
+      ended = e;
+      duty = λ free. free-duty (conditionsOf (afterEach s calls)) (channel (afterEach s calls) i) free (ap (λ (x : Channel). x .spin) e);
+    }
+
+module _ (s : State) (i : ℕ) (c : SpinsUp s i) where
+  module _ (ticks : ℕ) (none : channel s i .pulses ≡ 0) (left : 0 < channel (made (afterPulse s i) (Ticks ticks) .state) i .spin) where
+    abbrev later : State
+    later = made (afterPulse s i) (Ticks ticks) .state
+
+    later-channel : channel later i ≡ withMotion (channel s i) 511 (channel later i .spin) 1
+    later-channel =
+        count-stays (afterPulse s i) i ticks (first-runs s i c none) left
+        ∙ ap (λ ch. withMotion ch 511 (channel later i .spin) (ch .pulses)) (first-counts s i c none)
+
+    later-runs : SpinsUp later i
+    later-runs =
+        let r = first-runs s i c none in
+        runs-after (afterPulse s i) i (Ticks ticks) (r .channel-is) (r .ends-early) (ticks-long (afterPulse s i) ticks (r .channel-is .is-valid)) left
+
+    both : channel (afterPulse later i) i ≡ withMotion (channel s i) 511 0 0
+    both =
+        second-ends later i later-runs (ap (λ (x : Channel). x .pulses) later-channel)
+        ∙ ap (λ ch. withMotion ch 511 0 0) later-channel
+
+  pub ends-early : EndsEarly s i
+  unfolding afterEach
+  ends-early =
+      record {
+        next-ends = λ one. has-ended s i _ (second-ends s i c one);
+        counted = later-channel;
+        both-end = λ ticks none left. has-ended s i _ (both ticks none left);
+      }
+
+-- one that starts with the next tick
+module _ (s : State) (i more : ℕ) (c : StartsSpinUp s i (1 + more)) (within : more < spinTicks (spinCode (channel s i .config))) where
+  started-channel : channel (made s (Ticks (1 + more)) .state) i ≡ withMotion (channel s i) 511 (spinTicks (spinCode (channel s i .config)) - more) 0
+  unfolding made
+  started-channel =
+      let o = c .channel-is in
+      let e : 1 + more - 1 ≡ more = omega arith in
+      let short : counting s ≡ true → s .timer .idle + (1 + more) < idleLimit s =
+      λ on. let l = counting-live s on in c .none-coming (eqb-false (watchdogCode (s .registers .control)) 0 (l .0)) (l .1) in
+      ap (λ (a : Answer). channel (a .state) i) (passed-valid s (1 + more) (o .is-valid))
+      ∙ ap (λ x. channel x i) (ticks-ahead s (1 + more) short)
+      ∙ channel-ahead s i (omega (arith, o .below, o .six)) (c .not-overridden) (1 + more)
+      ∙ ticks-due-within (1 + more) (s .timer .clock) (channel s i) (c .not-running) (c .due) (omega arith) (omega arith)
+      ∙ ap (λ m. withMotion (channel s i) 511 (spinTicks (spinCode (channel s i .config)) - m) 0) e
+
+  pub starts-anew : HasStarted s i more
+  unfolding afterEach
+  starts-anew =
+      record {
+        runs =
+            runs-after s i (Ticks (1 + more)) (c .channel-is) (c .ends-early) (ticks-long s (1 + more) (c .channel-is .is-valid))
+            (rw started-channel (omega arith));
+        anew = started-channel;
+      }
+
+-- from the start above, in a box of B, after the tick that starts the spin-up and ten more: both pulses come within the 256 ticks. After the
+-- first 226 of them are left; after the second the ramp goes on, and four ticks later it has left 511
+abbrev running : State
+running = started (startedAs 1) 0 10
+
+pub ends-early-example : StartsSpinUp (startedAs 1) 0 11 × HasStarted (startedAs 1) 0 10 × HasEnded running 0 (bothPulses 0 20)
+    × (seenAfter running (firstPulse 0 20) ≡ 226 ∷ 1 ∷ 511 ∷ []) × (seenAfter (startedAs 1) crossed ≡ 0 ∷ 0 ∷ 510 ∷ [])
+unfolding startOf afterEach made pulseOf pulsed validOf validRegisters validStart validTimer validChannel validPulses watchdogLimit ticksPassed iterate tick timerTick channelsTick channelTick conditionsOf overrideBy spinUpDue wanted spinTicks toward
+ends-early-example = (begins, starts, ends-early running 0 (starts .runs) .both-end 20 refl (lit< tt), refl, refl)
+  where
+    begins : StartsSpinUp (startedAs 1) 0 11
     begins = record {
       channel-is = record { is-valid = refl; six = refl; below = omega arith };
       ends-early = refl;
@@ -279,3 +284,26 @@ ends-early-example = (begins, ends-early (startedAs 1) 0 10 20 begins (lit< tt),
       not-overridden = refl;
       none-coming = λ on live. lit< tt;
     }
+
+    starts : HasStarted (startedAs 1) 0 10
+    starts = starts-anew (startedAs 1) 0 10 begins (lit< tt)
+
+-- the same with FULL_SPEED low before the first pulse: the 246 ticks that are left stand still, for 300 ticks after it too. In the state
+-- that these leave one pulse is counted, and the next ends the spin-up
+abbrev frozen : State
+frozen = made running (Pin false) .state
+
+abbrev halfway : State
+halfway = afterEach frozen (firstPulse 0 300)
+
+pub frozen-example : SpinsUp frozen 0 × (overridden (conditionsOf frozen) (channel frozen 0) ≡ true) × HasEnded frozen 0 (bothPulses 0 300)
+    × (seenAfter frozen (firstPulse 0 300) ≡ 246 ∷ 1 ∷ 511 ∷ []) × SpinsUp halfway 0 × HasEnded halfway 0 (Pulse 1 ∷ [])
+unfolding startOf pinOf afterEach made pulseOf pulsed validOf validRegisters validStart validTimer validChannel validPulses watchdogLimit ticksPassed iterate tick timerTick channelsTick channelTick conditionsOf overrideBy spinUpDue wanted spinTicks toward
+frozen-example =
+    (none, refl, ends-early frozen 0 none .both-end 300 refl (lit< tt), refl, one, ends-early halfway 0 one .next-ends refl)
+  where
+    none : SpinsUp frozen 0
+    none = record { channel-is = record { is-valid = refl; six = refl; below = omega arith }; ends-early = refl; remains = lit< tt }
+
+    one : SpinsUp halfway 0
+    one = record { channel-is = record { is-valid = refl; six = refl; below = omega arith }; ends-early = refl; remains = lit< tt }

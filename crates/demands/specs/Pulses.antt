@@ -43,7 +43,35 @@ pub record AsWithoutPulses (s : State) (calls : List Call) : Type 0 where
 
 -- ---- B: "the second pulse within a running spin-up sets its remaining ticks to 0"
 
--- a box of B in which the spin-up of the channel with index i starts with the next tick, and no override is in force or comes within so many ticks
+-- a box of B in which spin-up time of the channel with index i remains. It runs, or stands still under an override: pulses count in both
+pub record SpinsUp (s : State) (i : ℕ) : Type 0 where
+  pub channel-is : OneOfSix s i
+  pub ends-early : endsEarly (s .start .modification) ≡ true
+  pub remains : 0 < channel s i .spin
+
+-- calls have ended it: the ramp value is 511, and nothing else of the channel has changed. Where no override is in force, the ramp value is the duty
+pub record HasEnded (s : State) (i : ℕ) (calls : List Call) : Type 0 where
+  pub ended : channel (afterEach s calls) i ≡ withMotion (channel s i) 511 0 0
+  pub duty : let t = afterEach s calls in overridden (conditionsOf t) (channel t i) ≡ false → dutyAt t i ≡ channel t i .ramp
+
+-- a pulse of a channel and ticks after it, and one more pulse
+module _ (i ticks : ℕ) where
+  abbrev pub firstPulse : List Call
+  firstPulse = Pulse (i + 1) ∷ Ticks ticks ∷ []
+
+  abbrev pub bothPulses : List Call
+  bothPulses = Pulse (i + 1) ∷ Ticks ticks ∷ Pulse (i + 1) ∷ []
+
+-- "as stored it is 0 or 1"
+pub record EndsEarly (s : State) (i : ℕ) : Type 0 where
+  -- where one pulse is counted, the next is the second
+  pub next-ends : channel s i .pulses ≡ 1 → HasEnded s i (Pulse (i + 1) ∷ [])
+  -- where none is, the first is counted, and ticks leave the count as long as spin-up time remains; with the second it has ended
+  pub counted : (ticks : ℕ) → channel s i .pulses ≡ 0 →
+      let t = afterEach s (firstPulse i ticks) in 0 < channel t i .spin → channel t i ≡ withMotion (channel s i) 511 (channel t i .spin) 1
+  pub both-end : (ticks : ℕ) → channel s i .pulses ≡ 0 → 0 < channel (afterEach s (firstPulse i ticks)) i .spin → HasEnded s i (bothPulses i ticks)
+
+-- the spin-up of a channel starts with the next tick, and no override is in force or comes within so many ticks
 pub record StartsSpinUp (s : State) (i ticks : ℕ) : Type 0 where
   pub channel-is : OneOfSix s i
   pub ends-early : endsEarly (s .start .modification) ≡ true
@@ -52,18 +80,11 @@ pub record StartsSpinUp (s : State) (i ticks : ℕ) : Type 0 where
   pub not-overridden : overridden (conditionsOf s) (channel s i) ≡ false
   pub none-coming : (watchdogCode (s .registers .control) ≡ 0 → ⊥) → s .timer .expired ≡ false → s .timer .idle + ticks < idleLimit s
 
--- two pulses after the tick that starts it, with ticks before and between them
-module _ (s : State) (i before between : ℕ) where
-  abbrev pub firstPulse : List Call
-  firstPulse = Ticks (1 + before) ∷ Pulse (i + 1) ∷ Ticks between ∷ []
+-- ticks after the one that starts it: it runs, and "The count of pulses begins anew with each spin-up"
+module _ (s : State) (i more : ℕ) where
+  abbrev pub started : State
+  started = afterEach s (Ticks (1 + more) ∷ [])
 
-  abbrev pub bothPulses : List Call
-  bothPulses = Ticks (1 + before) ∷ Pulse (i + 1) ∷ Ticks between ∷ Pulse (i + 1) ∷ []
-
-  pub record EndsEarly : Type 0 where
-    -- after the first one it still runs, and that pulse is counted
-    pub counted : channel (afterEach s firstPulse) i ≡ withMotion (channel s i) 511 (spinTicks (spinCode (channel s i .config)) - before - between) 1
-    -- after the second one it has ended, with the ramp value at 511 and nothing else of the channel changed
-    pub ended : channel (afterEach s bothPulses) i ≡ withMotion (channel s i) 511 0 0
-    -- "the duty is then the ramp value"
-    pub duty : dutyAt (afterEach s bothPulses) i ≡ channel (afterEach s bothPulses) i .ramp
+  pub record HasStarted : Type 0 where
+    pub runs : SpinsUp started i
+    pub anew : channel started i ≡ withMotion (channel s i) 511 (spinTicks (spinCode (channel s i .config)) - more) 0

@@ -50,7 +50,8 @@ pub record KeepsBoth (g : Galley) (s : State) (call : GalleyCall) : Type 0 where
 
 -- ---- hysteresis
 
--- "a row below the row of T becomes that row, a row above the row of T + h becomes that one, and between them it stays"
+-- "After a sample T the row is the lesser of the present row and the row of T + h, but never below the row of T": it rises to the row of
+-- T, falls to the row of T + h, and between them stays
 pub record Hysteresis (row : ℕ) (t : ℤ) (h : ℕ) : Type 0 where
   pub rises : row < rowOf t → rowAfter row t h ≡ rowOf t
   pub falls : rowOf (t +ℤ pos h) < row → rowAfter row t h ≡ rowOf (t +ℤ pos h)

@@ -31,7 +31,7 @@ configNotAllowed = 4
 abbrev pub noSuchChannel : ℕ
 noSuchChannel = 5
 
--- "speed: range code above 7, pulses not 1 to 4, count not 1 to 2,046"
+-- of the speed calculation; K2: "6 stays for codes, pulses and counts above 2,047, tested first"
 abbrev pub speedOutOfRange : ℕ
 speedOutOfRange = 6
 

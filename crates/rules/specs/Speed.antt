@@ -17,7 +17,7 @@ speedRange code = getD (1 ∷ 2 ∷ 4 ∷ 8 ∷ 16 ∷ 32 ∷ 32 ∷ 32 ∷ []) 
 abbrev pub revolutions : ℕ → ℕ → ℕ → ℕ
 revolutions range pulses count = 491520 * speedRange range / (pulses * count)
 
--- refusal 6, since K2: "range code above 7, pulses not 1 to 4, count above 2,047"
+-- refusal 6: "range code above 7, pulses not 1 to 4", and since K2 only "counts above 2,047"
 unfoldable pub speedRefused : ℕ → ℕ → ℕ → Bool
 speedRefused range pulses count = ltb 7 range || not (leb 1 pulses && leb pulses 4) || ltb 2047 count
 
