@@ -1,12 +1,14 @@
 -- The groups of a number, put from the first to the last.
 use Prim.Native.Nat.{ℕ, zero, suc, _+_, _-_, _*_, _/_, _%_, _^_, _≤_, _<_}
 use mathlib.Core.Path.{_≡_}
-use mathlib.Core.List.{List, [], _++_}
+use mathlib.Core.List.{List, [], _∷_, _++_, append-nil, append-assoc}
 use native.Mathlib.Numerals.{add-one}
 use native.Mathlib.Omega.{arith}
-use lib.ListN.{length, getD, take, drop, set, drop-of-length-le}
-use lib.Seq.{append-snoc, take-suc-set, drop-cons}
+use lib.ListN.{length, take, set}
+use lib.Seq.{append-snoc, take-suc-set}
 use borrow.Author.Tests.{lt-ltb, le-ltb}
+use Rattle.lent.specs.Put.{Put}
+use Rattle.lent.proofs.Stores.{put-append}
 use Rattle.strings.specs.Encode.{bytesWithin, numberBytes, numbersBytes}
 
 -- what is left of a number of 32 bits after so many groups
@@ -41,12 +43,14 @@ module _ (bytes : List ℕ) (i rest : ℕ) (within : i < length bytes) where
 pub all-put : (bytes : List ℕ) (i rest : ℕ) → length bytes ≡ 5 → i ≡ 4 → rest < 2 ^ (32 - 7 * i) → take 5 (set bytes 4 rest) ≡ take i bytes ++ bytesWithin (5 - i) rest
 all-put bytes i rest long e low = rw e (last-put bytes 4 rest (omega arith) (omega arith) (omega (arith, few-left i rest e low)))
 
--- numbers, one after the other
-module _ (numbers : List ℕ) (i : ℕ) where
-  pub numbers-next : i < length numbers → numbersBytes (drop i numbers) ≡ numberBytes (getD numbers i 0) ++ numbersBytes (drop (i + 1) numbers)
+-- a kind and a number, and a number after those
+module _ (kind number : ℕ) {at next last : ℕ} {before between after : List ℕ} where
+  pub one-put : Put (numberBytes kind) at before between next → Put (numberBytes number) next between after last →
+      Put (numbersBytes (kind ∷ number ∷ [])) at before after last
   unfolding numbersBytes
-  numbers-next h = rw (add-one, drop-cons numbers i 0 h)
+  one-put p q = rw append-nil (put-append p q)
 
-  pub numbers-end : length numbers ≤ i → numbersBytes (drop i numbers) ≡ []
+  pub two-put : (second : ℕ) → Put (numbersBytes (kind ∷ number ∷ [])) at before between next → Put (numberBytes second) next between after last →
+      Put (numbersBytes (kind ∷ number ∷ second ∷ [])) at before after last
   unfolding numbersBytes
-  numbers-end h = rw (drop-of-length-le numbers h)
+  two-put second p q = rw (append-nil, ← append-assoc) (put-append (rw append-nil at p) q)

@@ -1,9 +1,12 @@
 // A record as bytes, put into a lent buffer. The definitions stand in `strings`.
 ghost use Prim.Native.Nat.{_≤_};
 ghost use mathlib.Core.Path.{_≡_};
+ghost use mathlib.Core.List.{[], _∷_};
 ghost use lib.ListN.{length, take};
-ghost use Rattle.text.specs.Put.{Put};
+ghost use Rattle.lent.specs.Put.{Put};
 ghost use Rattle.strings.specs.Encode.{numberBytes, numbersBytes, encoded, orderOf};
+use lent::front;
+use lent::put;
 use rules::Call;
 use strings::Order;
 use strings::PIN;
@@ -13,7 +16,6 @@ use strings::TACHOMETER;
 use strings::TICKS;
 use strings::WRITE;
 use strings::WRITE_WORD;
-use text::put::put;
 
 // The record of a call.
 pub fn order_of(call: Call) -> Order
@@ -55,20 +57,22 @@ fn put_number(number: u32, out: &mut [u8], at: usize) -> usize
 {
     let mut bytes = [0u8; 5];
     let long = spell(number, &mut bytes);
-    put(&bytes[..long], out, at)
+    put(front(&bytes, long), out, at)
 }
 
-// Numbers, one after the other.
-fn put_numbers(numbers: &[u32], out: &mut [u8], at: usize) -> usize
-    ensures { λ r. ⌜ Put (numbersBytes (now (numbers .entry))) at (now (out .entry)) (now (out .exit)) r ⌝ }
+// A kind and a number; a kind and two.
+fn put_one(kind: u32, number: u32, out: &mut [u8], at: usize) -> usize
+    ensures { λ r. ⌜ Put (numbersBytes (kind ∷ number ∷ [])) at (now (out .entry)) (now (out .exit)) r ⌝ }
 {
-    let mut next = at;
-    let mut i = 0;
-    while i < numbers.len() {
-        next = put_number(numbers[i], out, next);
-        i += 1;
-    }
-    next
+    let begun = put_number(kind, out, at);
+    put_number(number, out, begun)
+}
+
+fn put_two(kind: u32, first: u32, second: u32, out: &mut [u8], at: usize) -> usize
+    ensures { λ r. ⌜ Put (numbersBytes (kind ∷ first ∷ second ∷ [])) at (now (out .entry)) (now (out .exit)) r ⌝ }
+{
+    let begun = put_one(kind, first, out, at);
+    put_number(second, out, begun)
 }
 
 // Puts a record into a buffer from an index on, as far as there is room, and gives the index after it: past the buffer's end
@@ -77,12 +81,12 @@ pub fn encode(order: Order, out: &mut [u8], at: usize) -> usize
     ensures { λ r. ⌜ Put (encoded order) at (now (out .entry)) (now (out .exit)) r ⌝ }
 {
     match order {
-        Order::Write(address, value) => put_numbers(&[WRITE, address, value], out, at),
-        Order::Read(address) => put_numbers(&[READ, address], out, at),
-        Order::Ticks(ticks) => put_numbers(&[TICKS, ticks], out, at),
-        Order::Tachometer(channel, count) => put_numbers(&[TACHOMETER, channel, count], out, at),
-        Order::Pin(level) => put_numbers(&[PIN, level], out, at),
-        Order::WriteWord(address, word) => put_numbers(&[WRITE_WORD, address, word], out, at),
-        Order::Pulse(channel) => put_numbers(&[PULSE, channel], out, at),
+        Order::Write(address, value) => put_two(WRITE, address, value, out, at),
+        Order::Read(address) => put_one(READ, address, out, at),
+        Order::Ticks(ticks) => put_one(TICKS, ticks, out, at),
+        Order::Tachometer(channel, count) => put_two(TACHOMETER, channel, count, out, at),
+        Order::Pin(level) => put_one(PIN, level, out, at),
+        Order::WriteWord(address, word) => put_two(WRITE_WORD, address, word, out, at),
+        Order::Pulse(channel) => put_one(PULSE, channel, out, at),
     }
 }

@@ -1,4 +1,4 @@
-// Makes every call of the library once, on numbers that its input spells, and prints what they give: bench/divides looks at its
+// Makes every call of the library once, on numbers that its input spells, and prints what they give: cost/divides looks at its
 // compiled code. As the numbers come from the input the compiler works no answer out beforehand, and as each state is handed on and
 // what else is answered is printed it leaves nothing out but refusals.
 use libc::STDIN_FILENO;
@@ -168,11 +168,11 @@ fn served(state: State, letters: [u8; 18]) -> State {
 
 // The sum of a state's numbers, once they have been to numbers and back.
 fn sum_of(state: State) -> u64 {
-    let numbers = image::numbers_of(state);
-    let again = image::numbers_of(image::state_of(&numbers));
+    let numbers = numbers::numbers_of(state);
+    let again = numbers::numbers_of(numbers::state_of(&numbers));
     let mut sum: u64 = 0;
     let mut i: usize = 0;
-    while i < image::STATE_NUMBERS {
+    while i < numbers::STATE_NUMBERS {
         sum = std::num::wrapping_add_u64(sum, again[i] as u64);
         i += 1;
     }
@@ -186,7 +186,7 @@ fn main() {
     asked(state, six_bits(letters[12]));
     tell(
         b"limit ",
-        image::limit(six_bits(letters[13]) as usize) as u64,
+        numbers::limit(six_bits(letters[13]) as usize) as u64,
     );
     tell(b"sum ", sum_of(served(ran(state, letters), letters)));
 }

@@ -24,7 +24,8 @@ fn stop(refusal: u8, taken: u32, answered: usize, state: State) -> RunAnswer
     }
 }
 
-fn is_read(call: Call) -> bool
+// Whether a call answers with a byte.
+pub fn is_read(call: Call) -> bool
     ensures { λ r. ⌜ r ≡ isRead call ⌝ }
 {
     match call {

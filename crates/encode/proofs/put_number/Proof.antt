@@ -1,7 +1,4 @@
 -- `put_number` meets its contract. Assumes nothing.
-use mathlib.Core.Path.{sym}
-use native.Mathlib.Omega.{arith}
-use lib.Seq.{length-take-le}
 use borrow.Author.Needs.{needs}
 use Rattle.encode.proofs.put_number.Statement.{statement}
 use Rattle.encode.proofs.put_number.Tie as tie
@@ -12,22 +9,23 @@ slice-aggregate-spell c = search needs
 spell-requires : tie.Need-spell-requires
 spell-requires c κs = search needs
 
-array-share-prefix-bytes : tie.Need-array-share-prefix-bytes
-array-share-prefix-bytes c = search needs
+slice-aggregate-front : tie.Need-slice-aggregate-front
+slice-aggregate-front c = search needs
 
-slice-aggregate-put : tie.Need-slice-aggregate-put
-slice-aggregate-put c =
-    let spelled = c .before .before .spell in
-    sym (length-take-le (spelled .result) (spelled .last .1 .0) (omega (arith, spelled .kept .1 .0)))
+front-requires : tie.Need-front-requires
+front-requires c κs = search needs
 
 put-requires : tie.Need-put-requires
-put-requires c κs = tt
+put-requires c κs = search needs
 
 same-length : tie.Need-same-length
 same-length c = search needs
 
 returns : tie.Need-returns
-returns c = rw (c .before .before .before .before .before .before .spell .ensures .1) at (c .before .before .put .ensures)
+returns c =
+    let put = c .before .before in
+    let front = put .before .before in
+    rw (front .front .ensures, front .before .before .before .spell .ensures .1) at (put .put .ensures)
 
 pub put-number-spec : {M : Type 1} → statement M
 put-number-spec =
@@ -35,8 +33,8 @@ put-number-spec =
     (tie.spec
     slice-aggregate-spell
     spell-requires
-    array-share-prefix-bytes
-    slice-aggregate-put
+    slice-aggregate-front
+    front-requires
     put-requires
     same-length
     returns)

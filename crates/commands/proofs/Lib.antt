@@ -1,6 +1,0 @@
-pub mod Parameters
-pub mod Taking
-pub mod Parsing
-pub mod Called
-pub mod Halves
-pub mod Signs

@@ -1,0 +1,3 @@
+// Order strings at the console: what `run`, `encode` and `decode` answer. specs/ says what they are.
+pub mod decoded;
+pub mod packets;

@@ -1,0 +1,14 @@
+-- `galley` meets its contract, by computation. Assumes nothing.
+use mathlib.Core.Path.{refl}
+use Rattle.console_text.specs.Words.{runOf}
+use Rattle.numbers.specs.Numbers.{channelsLimits, limits}
+use Rattle.console_table.specs.Table.{commands, stateNumbers}
+use Rattle.console_table.proofs.galley.Statement.{statement}
+use Rattle.console_table.proofs.galley.Tie as tie
+
+returns : tie.Need-returns
+unfolding commands stateNumbers limits channelsLimits runOf
+returns c = refl
+
+pub galley-spec : {M : Type 1} → statement M
+galley-spec = tie.close (tie.spec returns)

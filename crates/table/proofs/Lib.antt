@@ -1,3 +1,0 @@
-pub mod Names
-pub mod Rows
-pub mod Order

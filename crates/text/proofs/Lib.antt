@@ -1,9 +1,0 @@
-pub mod Digits
-pub mod Runs
-pub mod Stores
-pub mod Frames
-pub mod Spelling
-pub mod Exact
-pub mod RoundTrip
-pub mod Lengths
-pub mod Integers

@@ -1,8 +1,0 @@
-pub mod Ascii
-pub mod Number
-pub mod Words
-pub mod Put
-pub mod Frame
-pub mod Decimal
-pub mod Fraction
-pub mod Signed

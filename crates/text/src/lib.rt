@@ -1,7 +1,0 @@
-// Numbers and words from text, and numbers back to text. specs/ says what they mean.
-pub mod decimal;
-pub mod fraction;
-pub mod line;
-pub mod number;
-pub mod put;
-pub mod signed;
