@@ -42,7 +42,7 @@ tell-as-requires : tie.Need-tell-as-requires
 tell-as-requires c κs = search needs
 
 returns : tie.Need-returns
-returns c = 
+returns c =
     let quiet = c .before .before in
     let over = quiet .before .before in
     let high = over .before .before in
