@@ -4,7 +4,8 @@
 pub mod galley;
 
 use crate::model::{
-    carried, period, spin_up_ticks, watchdog_limit, Channel, State, CHANNELS, MONITOR_ONLY,
+    carried, deciding_line, period, sound, spin_up_ticks, tick, watchdog_limit, Channel, Line,
+    State, CHANNELS, LONGEST_WAIT, MONITOR_ONLY,
 };
 use crate::random::Random;
 use crate::states::{random_duty, random_target_count};
@@ -339,4 +340,69 @@ pub fn span_to_expiry(random: &mut Random, state: &State) -> u32 {
         Some(limit) if random.chance(3, 4) => near(random, limit.saturating_sub(state.idle).into()),
         _ => near(random, some_limit),
     }
+}
+
+/// How many fans stand at ramp value 0, have a target and are under no override.
+pub fn waiting_fans(state: &State) -> usize {
+    let waits = |index: &usize| {
+        let channel = &state.channels[*index];
+        let free = deciding_line(state, *index) == Line::Ramp;
+        free && channel.ramp == 0 && channel.target > 0
+    };
+    (0..CHANNELS).filter(waits).count()
+}
+
+/// From 0 for channel 1: one whose ramp value is above 0 with no spin-up running, if there is one.
+pub fn running_fan(random: &mut Random, state: &State) -> u32 {
+    let any = random.below(CHANNELS as u32);
+    let running: Vec<u32> = (0..)
+        .zip(&state.channels)
+        .filter(|(_, channel)| channel.ramp > 0 && channel.spin == 0)
+        .map(|(index, _)| index)
+        .collect();
+    if running.is_empty() {
+        any
+    } else {
+        random.pick(&running)
+    }
+}
+
+/// The ticks until some fan starts, if one does so while nothing is sent: where one waits, the
+/// longest wait and the longest period are enough.
+pub fn ticks_to_departure(state: &State) -> Option<u32> {
+    if !sound(state) || waiting_fans(state) == 0 {
+        return None;
+    }
+    let mut later = *state;
+    for count in 1..=u32::from(LONGEST_WAIT) + 64 {
+        let before = later;
+        tick(&mut later);
+        let mut both = before.channels.iter().zip(&later.channels);
+        if both.any(|(old, new)| old.ramp == 0 && new.ramp > 0) {
+            return Some(count);
+        }
+    }
+    None
+}
+
+/// So many ticks that a fan starts with the last of them, with the one before or with the next; or
+/// one, some, through several departures, or far beyond all of them.
+pub fn span_to_departure(random: &mut Random, state: &State) -> u32 {
+    let wait = u32::from(state.wait);
+    let next = ticks_to_departure(state).unwrap_or(wait.max(1));
+    let some = random.between(1, next);
+    let several = next + random.below(5 * u32::from(LONGEST_WAIT));
+    let far = random.between(5000, 60_000);
+    let farthest = random.pick(&[u32::MAX, u32::MAX - 1, 1 << 31]);
+    random.weighted(&[
+        (12, next - 1),
+        (16, next),
+        (12, next + 1),
+        (6, 1),
+        (6, some),
+        (4, wait),
+        (6, several),
+        (2, far),
+        (1, farthest),
+    ])
 }

@@ -241,6 +241,7 @@ pub fn state_numbers(state: &State) -> Vec<u32> {
         u32::from(state.start_target),
         u32::from(state.start_frequency),
         u32::from(state.modification),
+        u32::from(state.wait),
     ];
     for channel in &state.channels {
         numbers.extend(channel_numbers(channel));
@@ -314,15 +315,16 @@ mod tests {
             pulses: 1,
             ..given.channels[5]
         };
+        given.wait = 2048;
         let mut state = State::default();
         assert_eq!(answer(Call::Load(given), &mut state), "ok");
         assert_eq!(state, given);
         let dump = answer(Call::Dump, &mut state);
-        let the_box = "0 1 36 119 0 63 63 69 0 0 2 1 300 119 1 ";
+        let the_box = "0 1 36 119 0 63 63 69 0 0 2 1 300 119 1 2048 ";
         let resting = "32 76 2047 0 0 300 480 0 0 0 ";
         let spinning_up = "32 76 2047 511 200 300 480 0 0 1";
         assert_eq!(dump, [the_box, &resting.repeat(5), spinning_up].concat());
-        assert_eq!(dump.split(' ').count(), 75);
+        assert_eq!(dump.split(' ').count(), 76);
     }
 
     #[test]
@@ -335,6 +337,19 @@ mod tests {
         assert_eq!(state, given);
         assert_eq!(answer(Call::Pulse { channel: 1 }, &mut state), "1");
         assert_eq!(state, given);
+    }
+
+    #[test]
+    fn a_load_takes_a_wait_of_sixteen_bits() {
+        let (_, fresh) = model::start(&PinSet::default());
+        for (wait, line) in [(0, "0"), (2048, "0"), (2049, "1"), (65_535, "1")] {
+            let given = State { wait, ..fresh };
+            let mut state = State::default();
+            assert_eq!(answer(Call::Load(given), &mut state), "ok");
+            assert_eq!(state, given);
+            assert_eq!(answer(Call::Pin { level: true }, &mut state), line);
+            assert_eq!(state, given);
+        }
     }
 
     #[test]
@@ -413,6 +428,9 @@ mod tests {
             ..PinSet::default()
         });
         let pulse = |channel| Call::Pulse { channel };
+        // With no start delay all six start with the first tick.
+        let address = 0x14;
+        assert_eq!(answer(Call::Write { address, byte: 5 }, &mut state), "0");
         assert_eq!(answer(Call::Ticks { count: 1 }, &mut state), "0");
         assert_eq!(plain_line(&pulse(6).words()), "pulse 6");
         for (channel, line) in [(0, "5"), (1, "0"), (6, "0"), (7, "5"), (u32::MAX, "5")] {

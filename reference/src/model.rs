@@ -6,6 +6,7 @@ pub const CHANNELS: usize = 6;
 pub const FULL_DUTY: u16 = 511;
 pub const FULL_COUNT: u16 = 2047;
 pub const LONGEST_SPIN_UP: u16 = 1024;
+pub const LONGEST_WAIT: u16 = 2048;
 pub const LONGEST_QUEUE: u8 = 6;
 
 /// The refusal numbers; 0 stands for an accepted call.
@@ -86,6 +87,8 @@ pub struct State {
     pub start_frequency: u8,
     /// A pin-set value, as the four before it.
     pub modification: u8,
+    /// Ticks until the next fan may start: K8's "one shared wait".
+    pub wait: u16,
     pub channels: [Channel; CHANNELS],
 }
 
@@ -129,6 +132,10 @@ impl State {
         self.options & 3
     }
 
+    pub fn start_delay_code(&self) -> u8 {
+        self.options >> 5
+    }
+
     pub fn fault(&self, index: usize) -> bool {
         self.faults >> index & 1 != 0
     }
@@ -145,6 +152,12 @@ pub fn watchdog_limit(code: u8) -> Option<u16> {
 /// early in a box of modification B.
 pub fn spin_up_ticks(code: u8) -> u16 {
     [0, 256, 512, 1024][usize::from(code)]
+}
+
+/// K8: "14h's start delay comes to life: codes 0 to 5 are 0, 128, 256, 512, 1,024 and 2,048 ticks,
+/// with 6 and 7 as 5."
+pub fn start_delay(code: u8) -> u16 {
+    [0, 128, 256, 512, 1024, 2048, 2048, 2048][usize::from(code)]
 }
 
 /// "Rate code k from 1 to 7: period 2^(k-1) ticks. With asymmetric fall the period of a falling
@@ -187,6 +200,8 @@ fn box_in_range(state: &State) -> bool {
         && state.start_spinup <= 3
         && state.start_target <= FULL_DUTY
         && [MODIFICATION_A, MODIFICATION_B].contains(&state.modification)
+        // K8: "wait at most 2,048"
+        && state.wait <= LONGEST_WAIT
 }
 
 fn channel_in_range(channel: &Channel) -> bool {
@@ -287,8 +302,11 @@ pub fn tick(state: &mut State) {
     // "1. The clock advances by one, wrapping."
     state.clock = state.clock.wrapping_add(1);
     watchdog_tick(state);
-    // "3. Each channel by itself." The watchdog has had its turn: the tick in which it expires
-    // "is already frozen".
+    // K8: the shared wait "falls by one each tick while above 0, after the watchdog's step." No
+    // override holds it.
+    state.wait = state.wait.saturating_sub(1);
+    // K8: "Then channels go from 1 to 6". The watchdog has had its turn: the tick in which it
+    // expires "is already frozen".
     for index in 0..CHANNELS {
         channel_tick(state, index);
     }
@@ -313,29 +331,44 @@ fn channel_tick(state: &mut State, index: usize) {
     if deciding_line(state, index).is_override() {
         return;
     }
-    let clock = state.clock;
-    let channel = &mut state.channels[index];
+    let channel = state.channels[index];
+    let next = moved(&channel, state.clock);
+    // K8: "one whose ramp value would leave 0 may do so only at wait 0, and then sets the wait."
+    // Held back, it changes nothing in this tick.
+    if channel.ramp == 0 && next.ramp > 0 {
+        if state.wait > 0 {
+            return;
+        }
+        state.wait = start_delay(state.start_delay_code());
+    }
+    state.channels[index] = next;
+}
+
+/// What a tick that ends at this clock makes of a channel under no override and with no wait.
+pub fn moved(channel: &Channel, clock: u32) -> Channel {
+    let mut next = *channel;
     if channel.spin > 0 {
         // "Else if spin-up runs, its remaining ticks fall by one." With the last of them goes the
         // count of pulses.
-        channel.spin -= 1;
-        if channel.spin == 0 {
-            channel.pulses = 0;
+        next.spin -= 1;
+        if next.spin == 0 {
+            next.pulses = 0;
         }
     } else if channel.spin_up_due() {
         // "spin-up starts: remaining ticks as coded, ramp value 511." K7: "The count of pulses
         // begins anew with each spin-up".
-        channel.spin = spin_up_ticks(channel.spin_up_code());
-        channel.ramp = FULL_DUTY;
-        channel.pulses = 0;
+        next.spin = spin_up_ticks(channel.spin_up_code());
+        next.ramp = FULL_DUTY;
+        next.pulses = 0;
     } else if channel.rate_code() == 0 {
         // "Else with rate code 0 the ramp value becomes the target."
-        channel.ramp = channel.target;
+        next.ramp = channel.target;
     } else if clock % period(channel) == 0 {
         // "Else, if the clock is a multiple of the period, the ramp value moves one towards the
         // target."
-        channel.ramp = one_towards(channel.ramp, channel.target);
+        next.ramp = one_towards(channel.ramp, channel.target);
     }
+    next
 }
 
 fn one_towards(ramp: u16, target: u16) -> u16 {
@@ -348,11 +381,13 @@ fn one_towards(ramp: u16, target: u16) -> u16 {
     }
 }
 
-/// True when this tick and every later one can change nothing but the clock: the watchdog counts
-/// no more, and each channel is under an override (ticks end none) or stands at its target.
-fn at_rest(state: &State) -> bool {
+/// True when the next tick and every later one can change nothing but the clock: the watchdog
+/// counts no more, no wait runs, and each channel is under an override (ticks end none) or stands
+/// at its target. One that is held back stands at 0, which is not its target.
+pub fn at_rest(state: &State) -> bool {
     let counting = state.watchdog_code() != 0 && !state.expired;
     !counting
+        && state.wait == 0
         && (0..CHANNELS).all(|index| {
             let channel = &state.channels[index];
             deciding_line(state, index).is_override()
@@ -389,8 +424,8 @@ pub struct PinSet {
     pub modification: u32,
 }
 
-/// "Ramp, spin-up, idle, clock and queue counts begin at 0; the pin is high." Refused, it gives "a
-/// state with every number 0 and every flag clear, pin low".
+/// "Ramp, spin-up, idle, clock and queue counts begin at 0; the pin is high." K8's wait is "at start
+/// and reset 0". Refused, it gives "a state with every number 0 and every flag clear, pin low".
 pub fn start(values: &PinSet) -> (u32, State) {
     // K7: "7 for another modification."
     let modifications = [MODIFICATION_A, MODIFICATION_B].map(u32::from);
@@ -437,6 +472,7 @@ fn as_at_start(given: &State) -> State {
         start_target: given.start_target,
         start_frequency: given.start_frequency,
         modification: given.modification,
+        wait: 0,
         channels: [channel; CHANNELS],
         ..State::default()
     }
@@ -536,6 +572,7 @@ fn store(state: &mut State, address: u32, byte: u8) {
         0x08..=0x0D => state.channels[register - 0x08].dynamics = byte & DYNAMICS_KEPT,
         0x12 => state.mask2 = byte & SIX_BITS,
         0x13 => state.mask1 = byte & SIX_BITS,
+        // A running wait stays as it is: the code counts where a fan starts.
         0x14 => state.options = byte & OPTIONS_KEPT,
         0x60..=0x65 => state.channels[register - 0x60].window = byte,
         _ => unreachable!("refused before: not carried, read-only or of a target"),
@@ -551,7 +588,8 @@ fn store_control(state: &mut State, byte: u8) {
     }
     state.control = byte & CONTROL_WRITTEN | state.control & STATUS;
     if byte & STANDBY != 0 {
-        // "To 00h with bit 7 and not 6: all ramp values and spin-up times become 0."
+        // "To 00h with bit 7 and not 6: all ramp values and spin-up times become 0." K8: "Standby
+        // does not clear it", the wait.
         state.channels.iter_mut().for_each(stop_ramp);
     }
 }

@@ -1,6 +1,7 @@
 //! Random scenarios: lines for the console and the answers that the model expects. A scenario is a
 //! row of short drills, each about one part of the paper, all on the one state in hand.
 
+mod delays;
 mod galley;
 mod pulses;
 
@@ -35,6 +36,9 @@ pub struct Scenario {
     /// The next of the ways to freeze a spin-up, and to cut it off, which are taken in turn.
     next_freeze: usize,
     next_cut_off: usize,
+    /// The next of the delay codes, and of the drills about fans that wait, taken in turn as well.
+    next_delay: u8,
+    next_waiting_drill: usize,
     /// While a string is packed, its records: calls become records then, and no lines.
     packed: Option<Vec<Record>>,
     pub input: String,
@@ -55,6 +59,8 @@ pub fn scenario(seed: u64, calls: usize) -> Scenario {
         next_limit: (seed % UPPER_LIMITS.len() as u64) as usize,
         next_freeze: 0,
         next_cut_off: 0,
+        next_delay: 0,
+        next_waiting_drill: 0,
         packed: None,
         input: format!("# Scenario of seed {seed}.\n"),
         answers: String::new(),
@@ -79,19 +85,20 @@ pub fn scenario(seed: u64, calls: usize) -> Scenario {
 /// All drills in a random order, each as often as its share says: so a short scenario has every one
 /// of them too.
 fn dealt_anew(random: &mut Random) -> Vec<Drill> {
-    let shares: [(usize, Drill); 12] = [
-        (16, Scenario::traffic_drill),
-        (8, Scenario::word_drill),
-        (4, Scenario::pulse_drill),
-        (1, Scenario::frozen_boxes_drill),
+    let shares: [(usize, Drill); 13] = [
+        (19, Scenario::traffic_drill),
+        (11, Scenario::word_drill),
+        (6, Scenario::pulse_drill),
+        (2, Scenario::frozen_boxes_drill),
         (1, Scenario::no_channel_drill),
+        (12, Scenario::delay_drill),
         (3, Scenario::start_drill),
         (4, Scenario::load_drill),
-        (10, Scenario::flaw_drill),
-        (3, Scenario::speed_drill),
+        (14, Scenario::flaw_drill),
+        (4, Scenario::speed_drill),
         (3, Scenario::encode_drill),
-        (47, Scenario::string_drill),
-        (23, Scenario::galley_drill),
+        (65, Scenario::string_drill),
+        (32, Scenario::galley_drill),
     ];
     let mut drills = Vec::new();
     for (times, drill) in shares {
@@ -120,15 +127,16 @@ impl Scenario {
 
     /// One of the drills whose calls, but for queries and dumps, have a kind: they can be packed.
     fn traffic_drill(&mut self) {
-        let drills: [(u32, Drill); 9] = [
+        let drills: [(u32, Drill); 10] = [
             (18, Scenario::register_drill),
             (5, Scenario::sweep_drill),
             (16, Scenario::ramp_drill),
             (14, Scenario::spin_up_drill),
             (10, Scenario::turning_drill),
+            (6, Scenario::waiting_drill),
             (12, Scenario::small_duty_drill),
             (14, Scenario::watchdog_drill),
-            (32, Scenario::tachometer_drill),
+            (44, Scenario::tachometer_drill),
             (16, Scenario::override_drill),
         ];
         let drill = self.random.weighted(&drills);
@@ -344,6 +352,7 @@ impl Scenario {
             self.write_word_for(0x40 + 2 * index);
         }
         if self.channel(index).ramp == 0 && !monitor {
+            self.clear_the_wait();
             self.write(0x08 + index, 0x40);
             self.set_duty(index, 200);
             self.pass(2);
@@ -527,6 +536,7 @@ impl Scenario {
                 8..=9 => self.read_something(),
                 10..=15 if number > 6 => self.traffic_drill(),
                 16 if number > 6 => self.turning_drill(),
+                17 if number > 6 => self.waiting_drill(),
                 _ => self.any_call(),
             }
         }
@@ -782,7 +792,7 @@ impl Scenario {
         self.make(call);
     }
 
-    /// Leaves the channel without an override, and the watchdog mostly off.
+    /// Leaves the channel without an override, the watchdog mostly off, and mostly no wait.
     fn clear_overrides(&mut self, index: u32) {
         if !self.state.pin {
             self.make(Call::Pin { level: true });
@@ -791,13 +801,29 @@ impl Scenario {
             let code = self.random.weighted(&[(6, 0), (1, 1), (1, 2), (1, 3)]);
             self.write(0x00, 0x20 | code << 1);
         }
+        let calm = self.random.chance(2, 3);
         if self.state.failed_fan_option() != 1 && self.random.chance(3, 4) {
-            let others = self.random.byte() & 0xE3;
+            let others = self.random.byte() & if calm { 0x03 } else { 0xE3 };
             self.write(0x14, 0x04 | others);
         }
         if self.channel(index).monitor_only() {
             let others = self.random.byte() & 0x6A;
             self.write(0x02 + index, others);
+        }
+        if calm {
+            self.clear_the_wait();
+        }
+    }
+
+    /// Delay code 0, and the wait that an earlier code has left run out.
+    fn clear_the_wait(&mut self) {
+        let others = self.state.options & 0x1F;
+        if self.state.options != others {
+            self.write(0x14, others);
+        }
+        let wait = u32::from(self.state.wait);
+        if wait > 0 {
+            self.pass(wait);
         }
     }
 }

@@ -1,5 +1,6 @@
 //! What a scenario has met: counted so that one can see that it covers the paper.
 
+mod delays;
 mod galley;
 mod pulses;
 mod words;
@@ -15,6 +16,7 @@ use crate::model::{
     RESET,
 };
 use crate::orders::{self, Reader, Run, KINDS, SHORT_BUFFER};
+pub use delays::SeenDelays;
 use galley::SeenGalley;
 pub use pulses::SeenPulses;
 use words::SeenWords;
@@ -38,6 +40,7 @@ pub struct Seen {
     // From here on, what single calls did and what the records did that runs took.
     pub words: SeenWords,
     pub pulses: SeenPulses,
+    pub delays: SeenDelays,
     /// Tachometer results that were not stored, not judged, judged good, judged bad.
     pub results: [usize; 4],
     /// Judged results by target count and then by stored count, both from `NEAR_FULL` to 2,047.
@@ -117,18 +120,21 @@ impl Seen {
         self.sound_loads += usize::from(sound);
         self.flawed_loads += usize::from(!sound);
         self.pulses.note_load(state, sound);
+        self.delays.note_load(state);
     }
 
-    /// The two states are those before the call.
+    /// The galley and the first of the controllers are those before the call.
     pub fn note_galley(
         &mut self,
         call: &GalleyCall,
         refusal: u32,
         galley: &Galley,
         controller: &State,
+        after: &State,
     ) {
         self.calls += 1;
         self.galley.note(call, refusal, galley, controller);
+        self.delays.note_sample(controller, after);
     }
 
     fn note_speed(&mut self, count: u32, answer: &str) {
@@ -167,6 +173,7 @@ impl Seen {
                 self.note_access(before);
                 self.faults_cleared += gained(after.faults, before.faults);
                 self.pulses.note_write(address, byte, before, after);
+                self.delays.note_write(address, byte, before, after);
             }
             Call::Write { .. } => self.words.note_refused_byte(refusal),
             Call::Word { address, word } if refusal == ACCEPTED => {
@@ -180,11 +187,15 @@ impl Seen {
                 self.note_result(before, after, channel as usize - 1);
             }
             Call::Pulse { channel } if refusal == ACCEPTED => {
-                self.pulses
-                    .note_accepted(channel as usize - 1, before, after);
+                let index = channel as usize - 1;
+                self.pulses.note_accepted(index, before, after);
+                self.delays.note_pulse(index, before, after);
             }
             Call::Pulse { channel } => self.pulses.note_refused(channel, refusal),
-            Call::Start(ref values) => self.pulses.note_start(values, refusal),
+            Call::Start(ref values) => {
+                self.pulses.note_start(values, refusal);
+                self.delays.note_start();
+            }
             _ => {}
         }
     }
@@ -210,6 +221,7 @@ impl Seen {
         self.clock_wraps += usize::from(before.clock.checked_add(count).is_none());
         self.words.note_ticks(before, after);
         self.pulses.note_ticks(before, after);
+        self.delays.note_ticks(before, count, after);
         for index in 0..CHANNELS {
             // No other step leads away from ramp value 0 while spin-up is due, and within one
             // call it is due at the beginning or never.
@@ -330,7 +342,7 @@ impl fmt::Display for Seen {
         }
         writeln!(out, "  encodings: {}", self.encodings)?;
         write!(out, "{}{}", self.runs, self.galley)?;
-        write!(out, "{}{}", self.words, self.pulses)?;
+        write!(out, "{}{}{}", self.words, self.pulses, self.delays)?;
         self.show_results(out)?;
         writeln!(out, "  faults cleared: {}", self.faults_cleared)?;
         writeln!(out, "  FAN_FAIL asserted: {}", self.fan_fail_asserted)?;

@@ -5,8 +5,8 @@ pub mod galley;
 
 use crate::model::{
     watchdog_limit, Channel, State, CHANNELS, FULL_COUNT, FULL_DUTY, LONGEST_QUEUE,
-    LONGEST_SPIN_UP, MODIFICATION_A, MODIFICATION_B, MONITOR_ONLY, RESET, STANDBY, STATUS,
-    TACHOMETER_ENABLED,
+    LONGEST_SPIN_UP, LONGEST_WAIT, MODIFICATION_A, MODIFICATION_B, MONITOR_ONLY, RESET, STANDBY,
+    STATUS, TACHOMETER_ENABLED,
 };
 use crate::random::Random;
 
@@ -24,6 +24,7 @@ pub fn sound_state(random: &mut Random) -> State {
         start_target: random_duty(random),
         start_frequency: random.byte(),
         modification: random.pick(&[MODIFICATION_A, MODIFICATION_B]),
+        wait: random_wait(random),
         ..State::default()
     };
     if random.chance(1, 2) {
@@ -53,6 +54,16 @@ fn random_clock(random: &mut Random) -> u32 {
             .wrapping_add(random.below(5))
             .wrapping_sub(2),
     }
+}
+
+/// None in every second state; else beside one of the coded delays, or anywhere.
+fn random_wait(random: &mut Random) -> u16 {
+    let small = random.between(1, 40) as u16;
+    let edge = random.pick(&[
+        1, 2, 127, 128, 129, 255, 256, 257, 511, 513, 1023, 1025, 2047, 2048, 2048,
+    ]);
+    let any = random.between(1, LONGEST_WAIT.into()) as u16;
+    random.weighted(&[(4, 0), (1, small), (2, edge), (1, any)])
 }
 
 fn random_options(random: &mut Random) -> u8 {
@@ -177,6 +188,40 @@ pub fn spinning_state(random: &mut Random) -> State {
     state
 }
 
+/// Sound and under no override, with several fans that wait for their turn; the watchdog is off.
+pub fn waiting_state(random: &mut Random) -> State {
+    let mut state = sound_state(random);
+    state.pin = true;
+    state.control &= !STANDBY;
+    state.options = state.options & !0x0C | 0x04;
+    set_code(&mut state, 0, 0, false);
+    let waiting = random.between(2, CHANNELS as u32);
+    let first = random.below(CHANNELS as u32);
+    for place in first..first + waiting {
+        let channel = &mut state.channels[place as usize % CHANNELS];
+        channel.config &= !MONITOR_ONLY;
+        stand_down(channel);
+        channel.target = random_duty(random).max(1);
+        if random.chance(1, 2) {
+            // Without a spin-up code it waits for its period too.
+            channel.config &= !0x60;
+        }
+    }
+    state
+}
+
+/// The same with the watchdog about to expire and the wait about to run out: before the tick of the
+/// expiry, in it or after it.
+pub fn waiting_before_expiry(random: &mut Random) -> State {
+    let mut state = waiting_state(random);
+    let code = random.between(1, 3) as u8;
+    let ticks = random.between(1, 4);
+    set_code(&mut state, code, limit_of(code) - ticks as u16, false);
+    let about = random.between(1, ticks + 1);
+    state.wait = random.pick(&[ticks, ticks, about]) as u16;
+    state
+}
+
 /// The overrides that leave a spin-up the ticks that it has.
 #[derive(Clone, Copy, Debug)]
 pub enum Freeze {
@@ -237,6 +282,7 @@ pub enum Flaw {
     StartSpinUp,
     StartTarget,
     ModificationRange,
+    WaitRange,
     AOverPulse,
     PulsesRange,
     PulseUnderA,
@@ -269,7 +315,7 @@ pub enum Flaw {
     ShorterLimit,
 }
 
-pub const FLAWS: [Flaw; 43] = [
+pub const FLAWS: [Flaw; 44] = [
     Flaw::ControlBit(RESET),
     Flaw::ControlBit(0x10),
     Flaw::Mask2Bit(0x40),
@@ -281,6 +327,7 @@ pub const FLAWS: [Flaw; 43] = [
     Flaw::StartSpinUp,
     Flaw::StartTarget,
     Flaw::ModificationRange,
+    Flaw::WaitRange,
     Flaw::AOverPulse,
     Flaw::PulsesRange,
     Flaw::PulseUnderA,
@@ -425,6 +472,7 @@ fn spoil_box(random: &mut Random, state: &mut State, flaw: Flaw) {
         Flaw::StandbyOverSpinUp => state.control |= STANDBY,
         Flaw::ModificationRange => state.modification = byte_above(random, MODIFICATION_B),
         Flaw::AOverPulse => state.modification = MODIFICATION_A,
+        Flaw::WaitRange => state.wait = above(random, LONGEST_WAIT),
         _ => {}
     }
 }
@@ -468,7 +516,7 @@ fn spoil_channel(random: &mut Random, channel: &mut Channel, flaw: Flaw) {
 }
 
 /// Above the highest number allowed: next to it, at the end of the field, or between.
-fn above(random: &mut Random, highest: u16) -> u16 {
+pub fn above(random: &mut Random, highest: u16) -> u16 {
     match random.below(3) {
         0 => highest + 1,
         1 => u16::MAX,
@@ -534,6 +582,8 @@ mod tests {
             assert!(sound(&sound_state(&mut random)));
             assert!(sound(&unusual_sound_state(&mut random)));
             assert!(sound(&spinning_state(&mut random)));
+            assert!(sound(&waiting_state(&mut random)));
+            assert!(sound(&waiting_before_expiry(&mut random)));
             assert!(sound(&state_before_expiry(&mut random)));
             let freeze = random.pick(&FREEZES);
             assert!(sound(&frozen_state(&mut random, freeze)));
@@ -548,6 +598,21 @@ mod tests {
         let counted = |state: &&State| state.channels.iter().any(|channel| channel.pulses > 0);
         assert!((4800..5200).contains(&states.iter().filter(of_b).count()));
         assert!(states.iter().filter(counted).count() >= 1000);
+    }
+
+    #[test]
+    fn random_waits_lie_everywhere_and_beside_the_coded_delays() {
+        let mut random = Random::new(3);
+        let states: Vec<State> = (0..10_000).map(|_| sound_state(&mut random)).collect();
+        for wait in [0, 1, 2, 127, 128, 129, 255, 256, 257, 2047, 2048] {
+            assert!(states.iter().filter(|state| state.wait == wait).count() >= 80);
+        }
+        for code in 0..8 {
+            let coded = |state: &&State| state.start_delay_code() == code;
+            assert!(states.iter().filter(coded).count() >= 1000);
+        }
+        let between = |state: &&State| (300..500).contains(&state.wait);
+        assert!(states.iter().filter(between).count() >= 50);
     }
 
     #[test]

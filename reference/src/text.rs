@@ -264,9 +264,9 @@ mod tests {
     fn the_longest_load_fits_into_a_line() {
         let mut random = Random::new(6);
         let mut said = vec![Word::Name("load")];
-        said.extend([u32::MAX; 75].map(Word::Number));
+        said.extend([u32::MAX; 76].map(Word::Number));
         for _ in 0..5_000 {
-            assert_eq!(words(&call_line(&mut random, &said)).len(), 76);
+            assert_eq!(words(&call_line(&mut random, &said)).len(), 77);
         }
     }
 

@@ -22,8 +22,8 @@ pin LEVEL                               refusal; 0 is low, 1 is high
 cabin                                   refusal, seconds, six shares
 fanfail                                 refusal, asserted, how many, lowest channel
 speed RANGE PULSES COUNT                refusal, and the speed, stopped or too fast
-dump                                    the state's 75 numbers
-load NUMBERS                            ok; the state is made of these 75 numbers
+dump                                    the state's 76 numbers
+load NUMBERS                            ok; the state is made of these 76 numbers
 show                                    the state for a person to read
 chart TICKS                             the duties over the next TICKS ticks, drawn
 run STRING ALLOWANCE ROOM               refusal, records taken, answer bytes, the buffer of ROOM bytes

@@ -6,10 +6,14 @@ use console_form::put_seconds;
 use console_form::put_text;
 use console_form::put_valid;
 use device::codes::ends_early;
+use device::codes::start_delay;
 use device::codes::watchdog_limit;
 use device::duty::conditions;
 use device::duty::output_duty;
+use device::duty::overridden;
+use device::duty::wanted;
 use device::valid::valid;
+use registers::fields::delay_code;
 use registers::fields::range_code;
 use registers::fields::tachometer_enabled;
 use registers::fields::watchdog_code;
@@ -127,6 +131,21 @@ fn put_modification(modification: u8, out: &mut [u8], at: usize) -> usize
     )
 }
 
+// How many ticks apart fans start, and how many are left until the next one may.
+fn put_starts(delay: u16, wait: u16, out: &mut [u8], at: usize) -> usize
+    ensures { λ r. ⌜ Frame 55 at (now (out .entry)) (now (out .exit)) r ⌝ }
+{
+    if (delay == 0) & (wait == 0) {
+        return put_text(b"starts    no delay, no wait\n", out, at);
+    }
+    put_form(
+        b"starts    # ticks apart, # to wait\n",
+        &[delay as u32, wait as u32],
+        out,
+        at,
+    )
+}
+
 // Why there is no speed: the tachometer is off, or else what the calculation answered.
 fn put_no_speed(enabled: bool, why: &[u8; 10], out: &mut [u8], at: usize) -> usize
     ensures { λ r. ⌜ Frame 10 at (now (out .entry)) (now (out .exit)) r ⌝ }
@@ -156,23 +175,40 @@ fn percent_tenths(duty: u16) -> u32 {
     duty as u32 * 1000 / 512
 }
 
-fn put_duties(number: u32, channel: Channel, duty: u16, out: &mut [u8], at: usize) -> usize
+// Whether the wait holds a channel back: it has a duty to leave ramp value 0 for, and no override keeps it there.
+fn held_back(wait: u16, conditions: Conditions, channel: Channel) -> bool {
+    let wants = (channel.ramp == 0) & (0 < wanted(channel));
+    (0 < wait) & wants & !overridden(conditions, channel)
+}
+
+// The ramp value, or that the channel waits: then it is 0.
+fn put_ramp(waiting: bool, ramp: u16, out: &mut [u8], at: usize) -> usize
+    ensures { λ r. ⌜ Frame 16 at (now (out .entry)) (now (out .exit)) r ⌝ }
+{
+    if waiting {
+        return put_text(b" waits", out, at);
+    }
+    put_form(b" #####", &[ramp as u32], out, at)
+}
+
+fn put_duties(
+    number: u32,
+    channel: Channel,
+    waiting: bool,
+    duty: u16,
+    out: &mut [u8],
+    at: usize,
+) -> usize
     ensures { λ r. ⌜ Frame 112 at (now (out .entry)) (now (out .exit)) r ⌝ }
 {
     let tenths = percent_tenths(duty);
+    let target = put_form(b"      #  #####", &[number, channel.target as u32], out, at);
+    let ramp = put_ramp(waiting, channel.ramp, out, target);
     put_form(
-        b"      #  ##### #####  ##### #####.#% #####",
-        &[
-            number,
-            channel.target as u32,
-            channel.ramp as u32,
-            duty as u32,
-            tenths / 10,
-            tenths % 10,
-            channel.count as u32,
-        ],
+        b"  ##### #####.#% #####",
+        &[duty as u32, tenths / 10, tenths % 10, channel.count as u32],
         out,
-        at,
+        ramp,
     )
 }
 
@@ -198,6 +234,7 @@ fn put_spin_up(spin: u16, pulses: u8, out: &mut [u8], at: usize) -> usize
 
 fn put_channel(
     number: u32,
+    wait: u16,
     conditions: Conditions,
     channel: Channel,
     out: &mut [u8],
@@ -206,7 +243,8 @@ fn put_channel(
     ensures { λ r. ⌜ Frame 190 at (now (out .entry)) (now (out .exit)) r ⌝ }
 {
     let duty = output_duty(conditions, channel);
-    let duties = put_duties(number, channel, duty, out, at);
+    let waiting = held_back(wait, conditions, channel);
+    let duties = put_duties(number, channel, waiting, duty, out, at);
     let speed = put_speed(channel, out, duties);
     let queue = put_queue(channel.queue, channel.fault, out, speed);
     put_spin_up(channel.spin, channel.pulses, out, queue)
@@ -216,6 +254,7 @@ fn put_channels(state: State, out: &mut [u8], at: usize) -> usize
     ensures { λ r. ⌜ Frame 1299 at (now (out .entry)) (now (out .exit)) r ⌝ }
 {
     let conditions = conditions(state);
+    let wait = state.timer.wait;
     let channels = state.channels;
     let mut next = put_text(
         b"channels, with the speed at two pulses a revolution and spin-up in ticks left:\nchannel target  ramp output  percent count       rpm queue fault spin-up pulses\n",
@@ -224,18 +263,20 @@ fn put_channels(state: State, out: &mut [u8], at: usize) -> usize
     );
     for i in 0..6u32 {
         let channel = channels[i as usize];
-        next = put_channel(i + 1, conditions, channel, out, next);
+        next = put_channel(i + 1, wait, conditions, channel, out, next);
     }
     next
 }
 
-// The whole state: the timer, the pins, the modification, and a table of the channels.
+// The whole state: the timer, the pins, the modification, the wait, and a table of the channels.
 pub fn put_show(state: State, out: &mut [u8], at: usize) -> usize
-    ensures { λ r. ⌜ Frame 1648 at (now (out .entry)) (now (out .exit)) r ⌝ }
+    ensures { λ r. ⌜ Frame 1703 at (now (out .entry)) (now (out .exit)) r ⌝ }
 {
     let conditions = conditions(state);
     let timer = put_timer(state, out, at);
     let pins = put_pins(state, conditions.standby, out, timer);
     let modification = put_modification(state.start.modification, out, pins);
-    put_channels(state, out, modification)
+    let delay = start_delay(delay_code(state.registers.options));
+    let starts = put_starts(delay, state.timer.wait, out, modification);
+    put_channels(state, out, starts)
 }

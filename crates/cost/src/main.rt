@@ -13,28 +13,48 @@ struct Given {
     state: State,
 }
 
-// A state of a kind: settled, ramping, spin-up due, watchdog counting, faults judged, or overridden (and anything else).
+// Every fan at full duty.
+fn settled() -> State {
+    let first = start::start(0, 0, 511, 0x11, 0);
+    pass_ticks(first.state, 100000).state
+}
+
+// Every fan on its way to a lower duty.
+fn ramping() -> State {
+    let mut next = settled();
+    next.channels[0].target = 100;
+    next.channels[1].target = 100;
+    next.channels[2].target = 100;
+    next.channels[3].target = 100;
+    next.channels[4].target = 100;
+    next.channels[5].target = 100;
+    next
+}
+
+// A state of a kind: settled, ramping, watchdog counting, faults judged, all six waiting to start, with spin-up due or not, or overridden
+// (and anything else).
 fn state_of(kind: u8) -> State {
-    let ramping = start::start(0, 0, 511, 0x11, 0);
-    if kind == b'r' {
-        return ramping.state;
-    }
     if kind == b's' {
-        let settled = pass_ticks(ramping.state, 100000);
-        return settled.state;
+        return settled();
+    }
+    if kind == b'r' {
+        return ramping();
+    }
+    if kind == b'w' {
+        return write::write(ramping(), 0x00, 0x22).state;
+    }
+    if kind == b'f' {
+        return failing(settled());
+    }
+    let waiting = start::start(0, 0, 511, 0x11, 0);
+    if kind == b'q' {
+        return waiting.state;
     }
     if kind == b'd' {
         let due = start::start(0, 1, 300, 0x11, 0);
         return due.state;
     }
-    if kind == b'w' {
-        let counting = start::start(1, 0, 511, 0x11, 0);
-        return counting.state;
-    }
-    if kind == b'f' {
-        return failing(pass_ticks(ramping.state, 100000).state);
-    }
-    pin::set_pin(ramping.state, false).state
+    pin::set_pin(waiting.state, false).state
 }
 
 // Tachometer 6 enabled, unmasked, and failed.
@@ -49,7 +69,7 @@ fn passing(state: State, ticks: u32) -> Given {
     let passed = pass_ticks(state, ticks);
     let next = passed.state;
     Given {
-        number: 0,
+        number: passed.refusal as u32,
         state: next,
     }
 }
@@ -80,17 +100,22 @@ fn storing(refusal: u8, state: State) -> Given {
     }
 }
 
-// One call, by its letter: 0, 1 or very many ticks; a read; a write of standby or of a window; a result; a FAN_FAIL query.
-fn call(state: State, letter: u8) -> Given {
+// 0, 1, just so many that six fans have started, or very many.
+fn ticks_of(letter: u8) -> u32 {
     if letter == b'0' {
-        return passing(state, 0);
+        return 0;
     }
     if letter == b'1' {
-        return passing(state, 1);
+        return 1;
     }
-    if letter == b'm' {
-        return passing(state, 4294967295);
+    if letter == b'l' {
+        return 1284;
     }
+    4294967295
+}
+
+// One call, by its letter: a read; a write of standby or of a window; a result; a FAN_FAIL query; and else ticks.
+fn call(state: State, letter: u8) -> Given {
     if letter == b'R' {
         return reading(state);
     }
@@ -106,7 +131,10 @@ fn call(state: State, letter: u8) -> Given {
         let answer = tachometer::take_result(state, 6, 2047);
         return storing(answer.refusal, answer.state);
     }
-    asking(state)
+    if letter == b'F' {
+        return asking(state);
+    }
+    passing(state, ticks_of(letter))
 }
 
 // Each call from another clock, and a sum of what they give.

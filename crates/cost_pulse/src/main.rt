@@ -22,18 +22,23 @@ fn call(state: State) -> Given {
     }
 }
 
-// Six spin-ups that run: in a box of modification A, or of B with no pulse counted, or (and with any other letter) with one.
+// Six spin-ups that run: with no start delay all begin in one tick.
+fn running(modification: u32) -> State {
+    let first = start::start(0, 1, 300, 0x11, modification);
+    let mut next = first.state;
+    next.registers.options = 0x05;
+    pass_ticks(next, 1).state
+}
+
+// They run in a box of modification A, or of B with no pulse counted, or (and with any other letter) with one.
 fn state_of(letter: u8) -> State {
     if letter == b'a' {
-        let first = start::start(0, 1, 300, 0x11, 0);
-        return pass_ticks(first.state, 1).state;
+        return running(0);
     }
-    let second = start::start(0, 1, 300, 0x11, 1);
-    let running = pass_ticks(second.state, 1);
     if letter == b'b' {
-        return running.state;
+        return running(1);
     }
-    call(running.state).state
+    call(running(1)).state
 }
 
 // Each call from another clock, and a sum of what they give.

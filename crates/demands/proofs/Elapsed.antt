@@ -5,28 +5,29 @@ use mathlib.Core.Bool.{true, false, false≢true}
 use mathlib.Core.List.{List, [], _∷_, map}
 use native.Mathlib.Decide.{decLt}
 use native.Mathlib.Omega.{arith}
-use lib.Dec.{ltb, lit<}
-use lib.ListN.{length, List·getD-eq-default, replicate}
-use borrow.Author.Tests.{ltb-true, ltb-false, eqb-false, le-ltb}
+use lib.Dec.{ltb, eqb, lit<}
+use lib.ListN.{length, set, List·getD-eq-default, replicate}
+use borrow.Author.Tests.{ltb-true, ltb-false, eqb-true, eqb-false, le-ltb}
 use Rattle.demands.specs.Types.{Channel, State, Conditions, Override, None, Duty, Answer}
-use Rattle.rules.specs.State.{blank, channel, startValues, timer, withSettings, withMotion, withChannels, withTimer}
-use Rattle.rules.specs.Registers.{rateCode, watchdogCode}
-use Rattle.rules.specs.Time.{watchdogLimit}
+use Rattle.rules.specs.State.{blank, channel, registers, startValues, timer, withSettings, withMotion, withRamp, withChannels, withRegisters, withTimer, withWait}
+use Rattle.rules.specs.Registers.{rateCode, watchdogCode, delayCode}
+use Rattle.rules.specs.Time.{watchdogLimit, startDelay}
 use Rattle.rules.specs.Duty.{conditionsOf, overrideBy, overrideOf, dutyUnder, outputDuty}
 use Rattle.rules.specs.Valid.{validChannel, validPulses, validRegisters, validStart, validTimer, validOf}
 use Rattle.rules.specs.Start.{startChannel, asAtStart}
 use Rattle.rules.specs.Calls.{accepted, stateNotValid, answer, readAnswer}
 use Rattle.rules.specs.Make.{made, madeEach, afterEach}
-use Rattle.rules.specs.Tick.{wanted, periodOf, spinUpDue, inForce, overridden, tick, iterate, ticksPassed}
+use Rattle.rules.specs.Tick.{wanted, periodOf, spinUpDue, inForce, overridden, idleLimit, timerTick, toward, channelTick, leavesZero, inTurn, waitAfter, channelsTick, waitTick, delayOf, tick, iterate, ticksPassed}
 use Rattle.demands.specs.Elapsed.{answers, endOf, total, totals, distance, settlingTicks, dutyAt, Settles, AsCounted}
 use Rattle.rules.proofs.Tests.{by-test}
 use Rattle.laws.proofs.Iterate.{iterate-add}
-use Rattle.laws.proofs.Each.{map-at}
 use Rattle.laws.proofs.Ramp.{approach, multiples, approach-up, approach-down, multiples-settled, multiples-sooner}
 use Rattle.laws.proofs.ChannelTicks.{channelTicks, rampedBy, period-pos, ticks-ramp}
 use Rattle.laws.proofs.TickValid.{iterate-valid}
 use Rattle.laws.proofs.Keep.{passed-valid, passed-refused}
-use Rattle.laws.proofs.StateTicks.{counting-live, channelsAfter, ahead, ticks-ahead, ahead-conditions}
+use Rattle.laws.proofs.StateTicks.{counting-live, rowOf, rowAfter, ahead, ticks-ahead, ahead-conditions}
+use Rattle.laws.proofs.Waiting.{alone, waits-not-above, waits-not-wanted}
+use Rattle.laws.proofs.OwnWay.{none-alone, only-alone, free-alone}
 
 -- ---- the calls
 
@@ -100,13 +101,31 @@ free-duty k ch free z = by-override (overrideOf k ch) free
     by-override None e = rw (le-ltb 0 (ch .spin) (omega arith)) refl
     by-override (Duty d) e = absurd (false≢true (sym e))
 
--- a channel with no override in force, k ticks that the watchdog does not end later
-module _ (s : State) (i : ℕ) (exists : i < length (s .channels)) (free : overridden (conditionsOf s) (channel s i) ≡ false) (k : ℕ) where
+-- k ticks that the watchdog does not end lead a channel where it goes by itself
+abbrev pub Own : State → ℕ → ℕ → Type 0
+Own s i k = channel (ahead s k) i ≡ alone (conditionsOf s) k (s .timer .clock) (channel s i)
+
+-- so it is above 0; with no wait and no delay; and at wait 0 with every other channel at ramp value and target 0
+module _ (s : State) (i : ℕ) (exists : i < length (s .channels)) where
+  pub above-own : (channel s i .ramp ≡ 0 → ⊥) → (k : ℕ) → Own s i k
+  unfolding ahead rowAfter
+  above-own above k =
+      none-alone (conditionsOf s) (delayOf s) k (s .timer .clock) (rowOf s) i exists (sym (waits-not-above (conditionsOf s) (channel s i) above))
+
+  free-own : s .timer .wait ≡ 0 → delayCode (s .registers .options) ≡ 0 → (k : ℕ) → Own s i k
+  unfolding ahead rowAfter startDelay
+  free-own z code k = free-alone (conditionsOf s) (delayOf s) k (s .timer .clock) (rowOf s) i exists z (ap startDelay code)
+
+  pub only-own : s .timer .wait ≡ 0 → ((n : ℕ) → (n ≡ i → ⊥) → (channel s n .ramp ≡ 0) × (channel s n .target ≡ 0)) → (k : ℕ) → Own s i k
+  unfolding ahead rowAfter wanted
+  only-own z others k =
+      only-alone (conditionsOf s) (delayOf s) i k (s .timer .clock) (rowOf s) exists z
+      (λ n other. sym (waits-not-wanted (conditionsOf s) (channel s n) (others n other .1)))
+
+-- with no override in force
+module _ (s : State) (i : ℕ) (free : overridden (conditionsOf s) (channel s i) ≡ false) (k : ℕ) (own : Own s i k) where
   pub channel-ahead : channel (ahead s k) i ≡ channelTicks false k (s .timer .clock) (channel s i)
-  unfolding ahead channelsAfter
-  channel-ahead =
-      map-at (λ x. channelTicks (overridden (conditionsOf s) x) k (s .timer .clock) x) (s .channels) i blank blank exists
-      ∙ ap (λ held. channelTicks held k (s .timer .clock) (channel s i)) free
+  channel-ahead = own ∙ ap (λ held. channelTicks held k (s .timer .clock) (channel s i)) free
 
   pub duty-ahead : (ramp spin pulses : ℕ) → channelTicks false k (s .timer .clock) (channel s i) ≡ withMotion (channel s i) ramp spin pulses →
       spin ≡ 0 → dutyAt (ahead s k) i ≡ ramp
@@ -143,10 +162,16 @@ module _ (s : State) (i : ℕ) (c : Settles s i) where
         ticks-ahead s k (λ on. let l = counting-live s on in
         omega (arith, c .none-coming (eqb-false (watchdogCode (s .registers .control)) 0 (l .0)) (l .1)))
 
+    own : Own s i k
+    own =
+        by-test (eqb (channel s i .ramp) 0)
+        (λ e. let z = c .no-wait (eqb-true _ 0 e) in free-own s i exists (z .0) (z .1) k)
+        (λ e. above-own s i exists (eqb-false _ 0 e) k)
+
     duty-then : dutyAt (iterate k tick s) i ≡ rampedBy (s .timer .clock) k (channel s i)
     duty-then =
         ap (λ x. dutyAt x i) short
-        ∙ duty-ahead s i exists (c .not-overridden) k _ (channel s i .spin) (channel s i .pulses)
+        ∙ duty-ahead s i (c .not-overridden) k own _ (channel s i .spin) (channel s i .pulses)
         (ticks-ramp (s .timer .clock) (channel s i) (c .not-running) (c .not-due) k (c .has-rate)) (c .not-running)
 
   at-target : (elapsed : List ℕ) → total elapsed ≡ settlingTicks (s .timer .clock) (channel s i) → dutyAt (endOf s elapsed) i ≡ wanted (channel s i)
@@ -183,7 +208,25 @@ abbrev settlingFrom : ℕ → ℕ → ℕ → ℕ → ℕ → State
 settlingFrom ramp target dynamics code idle =
     let v = startValues code 0 target 0 0 in
     let ch = withMotion (withSettings (startChannel v) 0 dynamics 0 target 480) ramp 0 0 in
-    withChannels (withTimer (asAtStart v 6 true) (timer 6 idle false false)) (replicate 6 ch)
+    withChannels (withTimer (asAtStart v 6 true) (timer 6 idle false false 0)) (replicate 6 ch)
+
+-- channel 1, by tests that antt computes
+settles-as-tested : (s : State) → let ch = channel s 0 in
+    validOf s ≡ true → eqb (dutyAt s 0) (wanted ch) ≡ false → eqb (rateCode (ch .dynamics)) 0 ≡ false →
+    ch .spin ≡ 0 → spinUpDue ch ≡ false → overridden (conditionsOf s) ch ≡ false →
+    ((watchdogCode (s .registers .control) ≡ 0 → ⊥) → s .timer .expired ≡ false → s .timer .idle + settlingTicks (s .timer .clock) ch < idleLimit s) →
+    (ch .ramp ≡ 0 → (s .timer .wait ≡ 0) × (delayCode (s .registers .options) ≡ 0)) → Settles s 0
+settles-as-tested s valid off rate rests due free coming wait =
+    record {
+      is-valid = valid;
+      off-target = eqb-false _ _ off;
+      has-rate = eqb-false _ 0 rate;
+      not-running = rests;
+      not-due = due;
+      not-overridden = free;
+      none-coming = coming;
+      no-wait = wait;
+    }
 
 -- ramp value 100, target 110, rate code 3, watchdog off: after 38 ticks
 abbrev pub risingState : State
@@ -191,18 +234,8 @@ risingState = settlingFrom 100 110 0x4C 0 0
 
 pub rising-example : Settles risingState 0 × (settlingTicks 6 (channel risingState 0) ≡ 38)
 unfolding validOf validRegisters validStart validTimer validChannel validPulses watchdogLimit conditionsOf overrideBy outputDuty spinUpDue wanted
-rising-example = (
-  record {
-    is-valid = refl;
-    off-target = eqb-false 100 110 refl;
-    has-rate = eqb-false 3 0 refl;
-    not-running = refl;
-    not-due = refl;
-    not-overridden = refl;
-    none-coming = λ on live. absurd (on refl);
-  },
-  refl,
-)
+rising-example =
+    (settles-as-tested risingState refl refl refl refl refl refl (λ on live. absurd (on refl)) (λ z. absurd (omega arith)), refl)
 
 -- ramp value 110, target 100, rate code 3, asymmetric fall, watchdog code 1 with 2,485 of 2,560 ticks counted: after 74 ticks, one
 -- before the watchdog would expire
@@ -211,15 +244,29 @@ fallingState = settlingFrom 110 100 0x4E 1 2485
 
 pub falling-example : Settles fallingState 0 × (settlingTicks 6 (channel fallingState 0) ≡ 74)
 unfolding validOf validRegisters validStart validTimer validChannel validPulses watchdogLimit conditionsOf overrideBy outputDuty spinUpDue wanted
-falling-example = (
-  record {
-    is-valid = refl;
-    off-target = eqb-false 110 100 refl;
-    has-rate = eqb-false 3 0 refl;
-    not-running = refl;
-    not-due = refl;
-    not-overridden = refl;
-    none-coming = λ on live. lit< tt;
-  },
-  refl,
-)
+falling-example =
+    (settles-as-tested fallingState refl refl refl refl refl refl (λ on live. lit< tt) (λ z. absurd (omega arith)), refl)
+
+-- ramp value 0, target 10, rate code 3, wait and delay code 0: after 38 ticks, though all six leave 0 in the second of them
+abbrev pub freeState : State
+freeState = withRegisters (settlingFrom 0 10 0x4C 0 0) (registers 0x20 0 0x3F 0x3F 0x05)
+
+pub free-example : Settles freeState 0 × (settlingTicks 6 (channel freeState 0) ≡ 38)
+    × (map (λ ch. ch .ramp) (endOf freeState (1 ∷ []) .channels) ≡ replicate 6 0)
+    × (map (λ ch. ch .ramp) (endOf freeState (2 ∷ []) .channels) ≡ replicate 6 1)
+unfolding validOf validRegisters validStart validTimer validChannel validPulses conditionsOf overrideBy outputDuty spinUpDue wanted made afterEach ticksPassed iterate tick timerTick channelsTick waitTick inTurn waitAfter leavesZero channelTick startDelay toward
+free-example =
+    (settles-as-tested freeState refl refl refl refl refl refl (λ on live. absurd (on refl)) (λ z. (refl, refl)), refl, refl, refl)
+
+-- ramp value 100 and target 110 as above, at wait 5 and delay code 2, while channel 2 leaves 0 within the 38 ticks
+abbrev pub besideState : State
+besideState =
+    let s = risingState in
+    withChannels (withTimer s (withWait (s .timer) 5)) (set (s .channels) 1 (withRamp (channel s 1) 0))
+
+pub beside-example : Settles besideState 0 × (settlingTicks 6 (channel besideState 0) ≡ 38)
+    × (besideState .timer .wait ≡ 5) × (delayCode (besideState .registers .options) ≡ 2)
+    × (channel besideState 1 .ramp ≡ 0) × (channel (endOf besideState (38 ∷ [])) 1 .ramp ≡ 9)
+unfolding validOf validRegisters validStart validTimer validChannel validPulses conditionsOf overrideBy outputDuty spinUpDue wanted made afterEach ticksPassed iterate tick timerTick channelsTick waitTick inTurn waitAfter leavesZero channelTick toward
+beside-example =
+    (settles-as-tested besideState refl refl refl refl refl refl (λ on live. absurd (on refl)) (λ z. absurd (omega arith)), refl, refl, refl, refl, refl)

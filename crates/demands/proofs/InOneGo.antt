@@ -19,7 +19,7 @@ use Rattle.rules.specs.Valid.{validChannel, validPulses, validRegisters, validS
 use Rattle.rules.specs.Start.{startChannel, asAtStart}
 use Rattle.rules.specs.WriteWord.{targetWritten, ownWordWritten, wordWritten, wordRefusal, writeWordOf}
 use Rattle.rules.specs.Read.{targetWord, placeByte, readAt, readOf}
-use Rattle.rules.specs.Tick.{wanted, spinUpDue, timerTick, channelTick, channelsTick, tick, iterate, ticksPassed}
+use Rattle.rules.specs.Tick.{wanted, spinUpDue, timerTick, channelTick, leavesZero, inTurn, waitAfter, channelsTick, waitTick, tick, iterate, ticksPassed}
 use Rattle.rules.specs.Make.{withoutByte, made, madeEach, afterEach}
 use Rattle.laws.proofs.Keep.{calls-keep}
 use Rattle.laws.proofs.Targets.{target-place, word-written}
@@ -113,7 +113,7 @@ abbrev turning : State
 turning =
     let v = startValues 1 1 200 0 0 in
     let ch = withMotion (withSettings (startChannel v) 0x20 0x40 0 200 480) 200 0 0 in
-    withTimer (withChannels (asAtStart v 0 true) (replicate 6 (withResults ch (results 600 1 false)))) (timer 1000 7 false false)
+    withTimer (withChannels (asAtStart v 0 true) (replicate 6 (withResults ch (results 600 1 false)))) (timer 1000 7 false false 0)
 
 -- channel 1 after calls: its target, its ramp value, and its remaining spin-up ticks
 abbrev seenAfter : List Call → List ℕ
@@ -125,5 +125,5 @@ pub in-one-go-example : OneOfSix turning 0
     × (seenAfter (WriteWord 0x40 0x0000 ∷ Ticks 1 ∷ WriteWord 0x40 0x0080 ∷ Ticks 1 ∷ []) ≡ 1 ∷ 511 ∷ 256 ∷ [])
     × (seenAfter (WriteWord 0x40 0x0080 ∷ []) ≡ 1 ∷ 200 ∷ 0 ∷ [])
     × (seenAfter (WriteWord 0x40 0x0080 ∷ Ticks 1 ∷ []) ≡ 1 ∷ 1 ∷ 0 ∷ [])
-unfolding afterEach made writeWordOf wordRefusal wordWritten targetWritten placeAt targetAt validOf validRegisters validStart validTimer validChannel validPulses watchdogLimit ticksPassed iterate tick timerTick channelsTick channelTick conditionsOf overrideBy spinUpDue wanted spinTicks
+unfolding afterEach made writeWordOf wordRefusal wordWritten targetWritten placeAt targetAt validOf validRegisters validStart validTimer validChannel validPulses watchdogLimit ticksPassed iterate tick timerTick channelsTick waitTick inTurn waitAfter leavesZero channelTick conditionsOf overrideBy spinUpDue wanted spinTicks
 in-one-go-example = (record { is-valid = refl; six = refl; below = omega arith }, refl, refl, refl)

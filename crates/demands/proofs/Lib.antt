@@ -5,3 +5,4 @@ pub mod Trials
 pub mod Stopped
 pub mod InOneGo
 pub mod Pulses
+pub mod OneAtATime

@@ -1,37 +1,39 @@
 -- Pulses do nothing in a box of modification A, and two of them end a running spin-up in a box of B.
 use Prim.Native.Nat.{ℕ, zero, suc, _+_, _-_, _≤_, _<_}
 use mathlib.Core.Path.{_≡_, refl, sym, _∙_, ap}
-use mathlib.Core.Bool.{Bool, true, false, false≢true}
+use mathlib.Core.Bool.{Bool, true, false, _&&_, false≢true}
 use mathlib.Core.List.{List, [], _∷_}
 use native.Mathlib.Decide.{decLt}
 use native.Mathlib.Omega.{arith}
 use lib.Dec.{leb, ltb, eqb, lit<}
-use lib.ListN.{length, getD, length-set, length-map}
+use lib.ListN.{length, getD, length-set}
 use lib.Seq.{getD-set-same, set-getD}
-use borrow.Author.Tests.{lt-ltb, le-leb, leb-true, eqb-true, eqb-false}
-use Rattle.demands.specs.Types.{Channel, State, Answer, Call, Write, Read, Ticks, Tachometer, Pin, WriteWord, Pulse}
+use borrow.Author.Tests.{lt-ltb, le-ltb, le-leb, leb-true, eqb-true, eqb-false}
+use Rattle.demands.specs.Types.{Channel, State, Conditions, Answer, Call, Write, Read, Ticks, Tachometer, Pin, WriteWord, Pulse}
 use Rattle.rules.specs.Basics.{_implies_}
 use Rattle.rules.specs.State.{blank, channel, withMotion, withChannels}
-use Rattle.rules.specs.Registers.{spinCode, rateCode, watchdogCode, standby}
-use Rattle.rules.specs.Time.{spinTicks, endsEarly, watchdogLimit}
+use Rattle.rules.specs.Registers.{spinCode, rateCode, watchdogCode, delayCode, standby}
+use Rattle.rules.specs.Map.{placeAt, settingAt}
+use Rattle.rules.specs.Time.{clockAfter, spinTicks, startDelay, endsEarly, watchdogLimit}
 use Rattle.rules.specs.Duty.{conditionsOf, overrideBy}
 use Rattle.rules.specs.Calls.{isChannel}
 use Rattle.rules.specs.Valid.{validChannel, validPulses, validRegisters, validStart, validTimer, validOf}
 use Rattle.rules.specs.Start.{startOf}
+use Rattle.rules.specs.Write.{channelWritten, written, writeRefusal, writeOf}
 use Rattle.rules.specs.Pin.{pinOf}
-use Rattle.rules.specs.Tick.{wanted, spinUpDue, overridden, idleLimit, timerTick, toward, channelTick, channelsTick, tick, iterate, ticksPassed}
+use Rattle.rules.specs.Tick.{wanted, spinUpDue, overridden, idleLimit, delayOf, timerTick, toward, channelTick, ruleAt, leavesZero, inTurn, waitAfter, channelsTick, waitTick, tick, iterate, ticksPassed}
 use Rattle.rules.specs.Pulse.{pulsed, withPulse, pulseOf}
 use Rattle.rules.specs.Make.{made, madeEach, afterEach}
-use Rattle.rules.proofs.Tests.{by-test, choice, every-at}
-use Rattle.laws.proofs.Each.{map-at}
+use Rattle.rules.proofs.Tests.{and-left, by-test, choice, every-at}
 use Rattle.laws.proofs.Valid.{parts, parts-of-channel, four, fewPulses, few-pulses}
 use Rattle.laws.proofs.ChannelTicks.{channelTicks, ticks-held, ticks-at-once, ticks-ramp, ticks-within, ticks-past, ticks-due-within, full-not-due}
-use Rattle.laws.proofs.StateTicks.{counting, counting-live, counting-below, channelsAfter, ahead, ticks-ahead, expiring-ticks}
+use Rattle.laws.proofs.StateTicks.{counting, counting-live, counting-below, rowOf, rowAfter, ahead, ticks-ahead, expiring-ticks}
+use Rattle.laws.proofs.OwnWay.{rows-long, left-alone}
 use Rattle.laws.proofs.Keep.{calls-keep, passed-valid}
 use Rattle.laws.proofs.PinSet.{start-stays}
 use Rattle.demands.specs.Trials.{OneOfSix}
 use Rattle.demands.specs.Pulses.{isPulse, withoutPulses, answersBeside, AsWithoutPulses, SpinsUp, HasEnded, firstPulse, bothPulses, EndsEarly, StartsSpinUp, started, HasStarted}
-use Rattle.demands.proofs.Elapsed.{free-duty, channel-ahead}
+use Rattle.demands.proofs.Elapsed.{free-duty, Own, above-own, channel-ahead}
 
 -- ---- A
 
@@ -84,7 +86,7 @@ seenAfter s calls = let ch = channel (afterEach s calls) 0 in ch .spin ∷ ch .p
 -- in a box of A it runs on: of 256 ticks 34 are gone after the one that started it
 pub ignored-example : (endsEarly (startedAs 0 .start .modification) ≡ false) × (withoutPulses crossed ≡ Ticks 11 ∷ Ticks 20 ∷ Ticks 4 ∷ [])
     × (seenAfter (startedAs 0) crossed ≡ 222 ∷ 0 ∷ 511 ∷ [])
-unfolding withoutPulses startOf afterEach made pulseOf pulsed validOf validRegisters validStart validTimer validChannel validPulses watchdogLimit ticksPassed iterate tick timerTick channelsTick channelTick conditionsOf overrideBy spinUpDue wanted spinTicks
+unfolding withoutPulses startOf afterEach made pulseOf pulsed validOf validRegisters validStart validTimer validChannel validPulses watchdogLimit ticksPassed iterate tick timerTick channelsTick waitTick inTurn waitAfter leavesZero channelTick startDelay conditionsOf overrideBy spinUpDue wanted spinTicks
 ignored-example = (refl, refl, refl)
 
 -- ---- B
@@ -174,7 +176,7 @@ ticks-leave false m t ch top few some =
     ]
 
 -- the channels after ticks, also where the watchdog expires within them: those of so many ticks under the overrides of now
-ticks-channels : (s : State) (n : ℕ) → validOf s ≡ true → (m : ℕ) × (made s (Ticks n) .state .channels ≡ channelsAfter m s)
+ticks-channels : (s : State) (n : ℕ) → validOf s ≡ true → (m : ℕ) × (made s (Ticks n) .state .channels ≡ ahead s m .channels)
 unfolding made ahead
 ticks-channels s n valid =
     by-test (counting s)
@@ -190,18 +192,20 @@ ticks-channels s n valid =
     passed = ap (λ (a : Answer). a .state .channels) (passed-valid s n valid)
 
 ticks-long : (s : State) (n : ℕ) → validOf s ≡ true → length (made s (Ticks n) .state .channels) ≡ length (s .channels)
-unfolding channelsAfter
-ticks-long s n valid = ap length (ticks-channels s n valid .1) ∙ length-map (s .channels) _
+unfolding ahead rowAfter
+ticks-long s n valid =
+    let t = ticks-channels s n valid in
+    ap length (t .1) ∙ rows-long (conditionsOf s) (delayOf s) (t .0) (s .timer .clock) (rowOf s)
 
+-- a spin-up has ramp value 511, so no wait holds its channel up
 count-stays : (s : State) (i n : ℕ) → SpinsUp s i → let t = made s (Ticks n) .state in 0 < channel t i .spin →
     channel t i ≡ withMotion (channel s i) 511 (channel t i .spin) (channel s i .pulses)
-unfolding channelsAfter
 count-stays s i n c left =
     let o = c .channel-is in
+    let top = full s i (o .is-valid) (c .remains) in
     let t = ticks-channels s n (o .is-valid) in
-    let e = ap (λ l. getD l i blank) (t .1)
-    ∙ map-at (λ x. channelTicks (overridden (conditionsOf s) x) (t .0) (s .timer .clock) x) (s .channels) i blank blank (omega (arith, o .below, o .six)) in
-    rw e (ticks-leave _ (t .0) (s .timer .clock) (channel s i) (full s i (o .is-valid) (c .remains)) (few s i (o .is-valid)) (rw e at left))
+    let e = ap (λ l. getD l i blank) (t .1) ∙ above-own s i (omega (arith, o .below, o .six)) (λ z. omega arith) (t .0) in
+    rw e (ticks-leave _ (t .0) (s .timer .clock) (channel s i) top (few s i (o .is-valid)) (rw e at left))
 
 -- a spin-up that is over has the ramp value as its duty
 has-ended : (s : State) (i : ℕ) (calls : List Call) → channel (afterEach s calls) i ≡ withMotion (channel s i) 511 0 0 → HasEnded s i calls
@@ -240,18 +244,35 @@ module _ (s : State) (i : ℕ) (c : SpinsUp s i) where
         both-end = λ ticks none left. has-ended s i _ (both ticks none left);
       }
 
+-- one that is due takes its ramp value from 0
+due-low : (ch : Channel) → spinUpDue ch ≡ true → eqb (ch .ramp) 0 ≡ true
+unfolding spinUpDue
+due-low ch due = and-left _ _ (and-left (eqb (ch .ramp) 0 && ltb 0 (wanted ch)) _ due)
+
+due-leaves : (k : Conditions) (clock : ℕ) (ch : Channel) → overridden k ch ≡ false → ch .spin ≡ 0 → spinUpDue ch ≡ true → leavesZero (ruleAt k clock) ch ≡ true
+unfolding leavesZero channelTick
+due-leaves k clock ch free z due = rw (due-low ch due, free, le-ltb 0 (ch .spin) (omega arith), due) refl
+
 -- one that starts with the next tick
 module _ (s : State) (i more : ℕ) (c : StartsSpinUp s i (1 + more)) (within : more < spinTicks (spinCode (channel s i .config))) where
+  -- its turn comes at wait 0
+  own : Own s i (1 + more)
+  unfolding ahead rowAfter startDelay
+  own =
+      let e : suc more ≡ 1 + more = omega arith in
+      rw (← e)
+      (left-alone (conditionsOf s) (delayOf s) more (s .timer .clock) (rowOf s) i (omega (arith, c .channel-is .below, c .channel-is .six))
+      (c .wait-over) (λ some. c .none-before (λ code. some (ap startDelay code))) (due-leaves (conditionsOf s) _ (channel s i) (c .not-overridden) (c .not-running) (c .due)))
+
   started-channel : channel (made s (Ticks (1 + more)) .state) i ≡ withMotion (channel s i) 511 (spinTicks (spinCode (channel s i .config)) - more) 0
   unfolding made
   started-channel =
-      let o = c .channel-is in
       let e : 1 + more - 1 ≡ more = omega arith in
       let short : counting s ≡ true → s .timer .idle + (1 + more) < idleLimit s =
       λ on. let l = counting-live s on in c .none-coming (eqb-false (watchdogCode (s .registers .control)) 0 (l .0)) (l .1) in
-      ap (λ (a : Answer). channel (a .state) i) (passed-valid s (1 + more) (o .is-valid))
+      ap (λ (a : Answer). channel (a .state) i) (passed-valid s (1 + more) (c .channel-is .is-valid))
       ∙ ap (λ x. channel x i) (ticks-ahead s (1 + more) short)
-      ∙ channel-ahead s i (omega (arith, o .below, o .six)) (c .not-overridden) (1 + more)
+      ∙ channel-ahead s i (c .not-overridden) (1 + more) own
       ∙ ticks-due-within (1 + more) (s .timer .clock) (channel s i) (c .not-running) (c .due) (omega arith) (omega arith)
       ∙ ap (λ m. withMotion (channel s i) 511 (spinTicks (spinCode (channel s i .config)) - m) 0) e
 
@@ -272,7 +293,7 @@ running = started (startedAs 1) 0 10
 
 pub ends-early-example : StartsSpinUp (startedAs 1) 0 11 × HasStarted (startedAs 1) 0 10 × HasEnded running 0 (bothPulses 0 20)
     × (seenAfter running (firstPulse 0 20) ≡ 226 ∷ 1 ∷ 511 ∷ []) × (seenAfter (startedAs 1) crossed ≡ 0 ∷ 0 ∷ 510 ∷ [])
-unfolding startOf afterEach made pulseOf pulsed validOf validRegisters validStart validTimer validChannel validPulses watchdogLimit ticksPassed iterate tick timerTick channelsTick channelTick conditionsOf overrideBy spinUpDue wanted spinTicks toward
+unfolding startOf afterEach made pulseOf pulsed validOf validRegisters validStart validTimer validChannel validPulses watchdogLimit ticksPassed iterate tick timerTick channelsTick waitTick inTurn waitAfter leavesZero channelTick startDelay conditionsOf overrideBy spinUpDue wanted spinTicks toward
 ends-early-example = (begins, starts, ends-early running 0 (starts .runs) .both-end 20 refl (lit< tt), refl, refl)
   where
     begins : StartsSpinUp (startedAs 1) 0 11
@@ -283,6 +304,8 @@ ends-early-example = (begins, starts, ends-early running 0 (starts .runs) .both-
       due = refl;
       not-overridden = refl;
       none-coming = λ on live. lit< tt;
+      wait-over = omega arith;
+      none-before = λ some n l. absurd (omega arith);
     }
 
     starts : HasStarted (startedAs 1) 0 10
@@ -298,7 +321,7 @@ halfway = afterEach frozen (firstPulse 0 300)
 
 pub frozen-example : SpinsUp frozen 0 × (overridden (conditionsOf frozen) (channel frozen 0) ≡ true) × HasEnded frozen 0 (bothPulses 0 300)
     × (seenAfter frozen (firstPulse 0 300) ≡ 246 ∷ 1 ∷ 511 ∷ []) × SpinsUp halfway 0 × HasEnded halfway 0 (Pulse 1 ∷ [])
-unfolding startOf pinOf afterEach made pulseOf pulsed validOf validRegisters validStart validTimer validChannel validPulses watchdogLimit ticksPassed iterate tick timerTick channelsTick channelTick conditionsOf overrideBy spinUpDue wanted spinTicks toward
+unfolding startOf pinOf afterEach made pulseOf pulsed validOf validRegisters validStart validTimer validChannel validPulses watchdogLimit ticksPassed iterate tick timerTick channelsTick waitTick inTurn waitAfter leavesZero channelTick startDelay conditionsOf overrideBy spinUpDue wanted spinTicks
 frozen-example =
     (none, refl, ends-early frozen 0 none .both-end 300 refl (lit< tt), refl, one, ends-early halfway 0 one .next-ends refl)
   where
@@ -307,3 +330,29 @@ frozen-example =
 
     one : SpinsUp halfway 0
     one = record { channel-is = record { is-valid = refl; six = refl; below = omega arith }; ends-early = refl; remains = lit< tt }
+
+-- from that start, at delay code 2, with channel 2 made monitor only: after 256 ticks the wait that channel 1 has set is over with the next. Of the
+-- two lower channels one is above 0 and the other overridden, and so channel 3 starts
+abbrev waited : State
+waited = afterEach (startedAs 1) (Write 0x03 0x30 ∷ Ticks 256 ∷ [])
+
+pub waited-example : (delayCode (waited .registers .options) ≡ 2) × (waited .timer .wait ≡ 1) × StartsSpinUp waited 2 11 × HasStarted waited 2 10
+unfolding startOf afterEach made writeOf writeRefusal written channelWritten placeAt settingAt validOf validRegisters validStart validTimer validChannel validPulses watchdogLimit ticksPassed iterate tick timerTick channelsTick waitTick inTurn waitAfter leavesZero channelTick startDelay conditionsOf overrideBy spinUpDue wanted spinTicks
+waited-example = (refl, refl, begins, starts-anew waited 2 10 begins (lit< tt))
+  where
+    before : (n : ℕ) → n < 2 → leavesZero (ruleAt (conditionsOf waited) (clockAfter (waited .timer .clock) 1)) (channel waited n) ≡ false
+    before zero l = refl
+    before (suc zero) l = refl
+    before (suc (suc n)) l = absurd (omega arith)
+
+    begins : StartsSpinUp waited 2 11
+    begins = record {
+      channel-is = record { is-valid = refl; six = refl; below = omega arith };
+      ends-early = refl;
+      not-running = refl;
+      due = refl;
+      not-overridden = refl;
+      none-coming = λ on live. lit< tt;
+      wait-over = omega arith;
+      none-before = λ some. before;
+    }

@@ -5,11 +5,11 @@ use mathlib.Core.Bool.{Bool, true, false, not, _&&_, false≢true, Bool·beq}
 use mathlib.Core.List.{List, [], _∷_, map}
 use native.Mathlib.Omega.{arith}
 use lib.Dec.{leb, ltb, eqb}
-use lib.ListN.{length, take, replicate, length-map}
+use lib.ListN.{length, getD, take, replicate, length-map}
 use borrow.Author.Tests.{lt-ltb, le-ltb, eq-eqb, eqb-false}
 use Rattle.demands.specs.Types.{Channel, Results, State, Conditions, Answer, StatusRegister, Count, Output, ReadOnly}
 use Rattle.rules.specs.Basics.{flag}
-use Rattle.rules.specs.State.{channel, registers, startValues, withSettings, withMotion, withChannels, withRegisters}
+use Rattle.rules.specs.State.{blank, channel, registers, startValues, withSettings, withMotion, withChannels, withRegisters}
 use Rattle.rules.specs.Registers.{spinCode, rateCode, asymmetric, tachometerEnabled}
 use Rattle.rules.specs.Words.{countWord, outputWord, wordByte}
 use Rattle.rules.specs.Map.{placeAt, statusAt}
@@ -27,7 +27,7 @@ use Rattle.laws.proofs.Valid.{parts}
 use Rattle.laws.proofs.Ramp.{approach, multiples}
 use Rattle.laws.proofs.ChannelTicks.{channelTicks, ticks-ramp, ticks-due-past, full-not-due}
 use Rattle.laws.proofs.StateTicks.{counting, ahead, ticks-ahead, clockAt, expiring-ticks}
-use Rattle.demands.proofs.Elapsed.{channel-ahead, duty-ahead}
+use Rattle.demands.proofs.Elapsed.{Own, only-own, channel-ahead, duty-ahead}
 use Rattle.laws.proofs.Keep.{passed-valid, passed-refused}
 use Rattle.laws.proofs.Targets.{low-of}
 use Rattle.demands.proofs.Queue.{channel-after, still-six, faultAfter, Ready, runs}
@@ -59,11 +59,15 @@ module _ (b : Begin) (s : State) (i : ℕ) (c : Begins b s i) where
       passes s n (c .is-valid)
       ∙ ticks-ahead s n (λ on. absurd (false≢true (rw (eq-eqb _ 0 (c .watchdog-off)) at on)))
 
+  -- at wait 0 and with the others at 0, nothing holds the channel up
+  own : (n : ℕ) → Own s i n
+  own = only-own s i (c .exists) (c .wait) (c .others)
+
   sees-duty : (n d pulses : ℕ) → channelTicks false n (s .timer .clock) (channel s i) ≡ withMotion (channel s i) d 0 pulses →
       Sees s i (duty-after n d)
   sees-duty n d pulses e = (
-    ap (λ x. dutyOf x) (off n) ∙ duty-ahead s i (c .exists) (c .not-overridden) n d 0 pulses e refl,
-    ap (λ x. channel x i .ramp) (off n) ∙ ap (λ (x : Channel). x .ramp) (channel-ahead s i (c .exists) (c .not-overridden) n ∙ e),
+    ap (λ x. dutyOf x) (off n) ∙ duty-ahead s i (c .not-overridden) n (own n) d 0 pulses e refl,
+    ap (λ x. channel x i .ramp) (off n) ∙ ap (λ (x : Channel). x .ramp) (channel-ahead s i (c .not-overridden) n (own n) ∙ e),
   )
     where
       dutyOf : State → ℕ
@@ -198,13 +202,23 @@ with-the-eighth s i counts c k l =
 
 -- ---- a state for each
 
--- six channels that begin so, with a configuration byte and an options byte
+-- a channel that begins so and five with every number 0, with a configuration byte and an options byte
 abbrev example : Begin → ℕ → ℕ → State
 example b config options =
     let v = startValues 0 0 (b .target) 0 0 in
     let dynamics = b .rate * 4 + flag (b .falls) * 2 in
     let ch = withMotion (withSettings (startChannel v) config dynamics 0 (b .target) 480) (b .ramp) 0 0 in
-    withChannels (withRegisters (asAtStart v (b .clock) true) (registers 0x20 0 0x3F 0x3F options)) (replicate 6 ch)
+    withChannels (withRegisters (asAtStart v (b .clock) true) (registers 0x20 0 0x3F 0x3F options)) (ch ∷ replicate 5 blank)
+
+-- each of those, and what stands past the last
+all-blank : (m n : ℕ) → getD (replicate m blank) n blank ≡ blank
+all-blank zero n = refl
+all-blank (suc m) zero = refl
+all-blank (suc m) (suc n) = all-blank m n
+
+others : (b : Begin) (config n : ℕ) → (n ≡ 0 → ⊥) → let s = example b config 0x45 in (channel s n .ramp ≡ 0) × (channel s n .target ≡ 0)
+others b config zero other = absurd (other refl)
+others b config (suc n) other = (ap (λ (x : Channel). x .ramp) (all-blank 5 n), ap (λ (x : Channel). x .target) (all-blank 5 n))
 
 begins-example : (b : Begin) (config : ℕ) → let s = example b config 0x45 in
     validOf s ≡ true → overridden (conditionsOf s) (channel s 0) ≡ false → rateCode (channel s 0 .dynamics) ≡ b .rate →
@@ -222,6 +236,8 @@ begins-example b config valid free rate falls spin =
       falls = falls;
       spin-up = spin;
       clock = refl;
+      wait = refl;
+      others = others b config;
     }
 
 one-of-six-example : (s : State) → validOf s ≡ true → length (s .channels) ≡ 6 → OneOfSix s 0

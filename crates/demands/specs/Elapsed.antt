@@ -8,7 +8,7 @@ use lib.Dec.{ltb}
 use Rattle.demands.specs.Types.{Channel, State, ReadAnswer, Ticks}
 use Rattle.rules.specs.Basics.{if_then_else_}
 use Rattle.rules.specs.State.{channel}
-use Rattle.rules.specs.Registers.{rateCode, watchdogCode}
+use Rattle.rules.specs.Registers.{rateCode, watchdogCode, delayCode}
 use Rattle.rules.specs.Duty.{conditionsOf, outputDuty}
 use Rattle.rules.specs.Valid.{validOf}
 use Rattle.rules.specs.Calls.{accepted, stateNotValid, readAnswer}
@@ -45,7 +45,8 @@ dutyAt s i = outputDuty (conditionsOf s) (channel s i)
 
 -- "if in a sound state a duty is not at its target, with a rate code other than 0, no spin-up running or due, and no override in
 -- force or coming within the tick count that the paper's settling formula gives". "An override .. comes within n ticks of a quiet
--- span exactly when the watchdog is on and not expired and its idle count plus n is at least its limit"
+-- span exactly when the watchdog is on and not expired and its idle count plus n is at least its limit". K8: the "settling sentence
+-- needs a ramp value above 0, or wait and delay code both 0"
 pub record Settles (s : State) (i : ℕ) : Type 0 where
   pub is-valid : validOf s ≡ true
   pub off-target : dutyAt s i ≡ wanted (channel s i) → ⊥
@@ -55,8 +56,9 @@ pub record Settles (s : State) (i : ℕ) : Type 0 where
   pub not-overridden : overridden (conditionsOf s) (channel s i) ≡ false
   pub none-coming : (watchdogCode (s .registers .control) ≡ 0 → ⊥) → s .timer .expired ≡ false →
       s .timer .idle + settlingTicks (s .timer .clock) (channel s i) < idleLimit s
+  pub no-wait : channel s i .ramp ≡ 0 → (s .timer .wait ≡ 0) × (delayCode (s .registers .options) ≡ 0)
 
--- demand 3, sentence by sentence
+-- demand 3, sentence by sentence. K8: it "reads over the new rule"
 pub record AsCounted : Type 0 where
   -- "After each jump of it, every field of the state equals what the one-tick rule leaves when applied to the span's first state as
   -- many times as the ticks so far add up to", "from any sound state"

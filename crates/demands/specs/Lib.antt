@@ -4,3 +4,4 @@ pub mod Elapsed
 pub mod Trials
 pub mod InOneGo
 pub mod Pulses
+pub mod OneAtATime

@@ -1,15 +1,15 @@
 -- K7, "Spin-up that stops when the fan turns": what pulses do in a box of modification A, and in one of modification B.
-use Prim.Native.Nat.{ℕ, _+_, _-_, _<_}
+use Prim.Native.Nat.{ℕ, _+_, _-_, _≤_, _<_}
 use mathlib.Core.Path.{_≡_}
 use mathlib.Core.Bool.{Bool, true, false}
 use mathlib.Core.List.{List, [], _∷_}
 use Rattle.demands.specs.Types.{State, ReadAnswer, Call, Write, Read, Ticks, Tachometer, Pin, WriteWord, Pulse}
 use Rattle.rules.specs.Basics.{if_then_else_}
 use Rattle.rules.specs.State.{channel, withMotion}
-use Rattle.rules.specs.Registers.{spinCode, watchdogCode}
-use Rattle.rules.specs.Time.{spinTicks, endsEarly}
+use Rattle.rules.specs.Registers.{spinCode, watchdogCode, delayCode}
+use Rattle.rules.specs.Time.{clockAfter, spinTicks, endsEarly}
 use Rattle.rules.specs.Duty.{conditionsOf}
-use Rattle.rules.specs.Tick.{spinUpDue, overridden, idleLimit}
+use Rattle.rules.specs.Tick.{spinUpDue, overridden, idleLimit, ruleAt, leavesZero}
 use Rattle.rules.specs.Make.{made, madeEach, afterEach}
 use Rattle.demands.specs.Elapsed.{dutyAt}
 use Rattle.demands.specs.Trials.{OneOfSix}
@@ -71,7 +71,8 @@ pub record EndsEarly (s : State) (i : ℕ) : Type 0 where
       let t = afterEach s (firstPulse i ticks) in 0 < channel t i .spin → channel t i ≡ withMotion (channel s i) 511 (channel t i .spin) 1
   pub both-end : (ticks : ℕ) → channel s i .pulses ≡ 0 → 0 < channel (afterEach s (firstPulse i ticks)) i .spin → HasEnded s i (bothPulses i ticks)
 
--- the spin-up of a channel starts with the next tick, and no override is in force or comes within so many ticks
+-- the spin-up of a channel starts with the next tick, and no override is in force or comes within so many ticks. K8: a ramp value leaves 0 "only at
+-- wait 0". The shared wait has fallen to 0 in that tick, and with a delay code other than 0 no lower channel would leave 0 in it, which would set the wait anew
 pub record StartsSpinUp (s : State) (i ticks : ℕ) : Type 0 where
   pub channel-is : OneOfSix s i
   pub ends-early : endsEarly (s .start .modification) ≡ true
@@ -79,6 +80,9 @@ pub record StartsSpinUp (s : State) (i ticks : ℕ) : Type 0 where
   pub due : spinUpDue (channel s i) ≡ true
   pub not-overridden : overridden (conditionsOf s) (channel s i) ≡ false
   pub none-coming : (watchdogCode (s .registers .control) ≡ 0 → ⊥) → s .timer .expired ≡ false → s .timer .idle + ticks < idleLimit s
+  pub wait-over : s .timer .wait ≤ 1
+  pub none-before : (delayCode (s .registers .options) ≡ 0 → ⊥) → (n : ℕ) → n < i →
+      leavesZero (ruleAt (conditionsOf s) (clockAfter (s .timer .clock) 1)) (channel s n) ≡ false
 
 -- ticks after the one that starts it: it runs, and "The count of pulses begins anew with each spin-up"
 module _ (s : State) (i more : ℕ) where

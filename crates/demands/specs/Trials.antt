@@ -92,7 +92,7 @@ trials =
 -- ---- what a trial begins with, of a state and the channel with index i
 
 -- "Each ramp trial begins with no override in force, no spin-up running and the watchdog off; spin-up code 0 and no asymmetric fall
--- unless said"
+-- unless said". K8: "The ramp trials begin at wait 0, with every other channel's ramp value and target duty 0"
 pub record Begins (b : Begin) (s : State) (i : ℕ) : Type 0 where
   pub is-valid : validOf s ≡ true
   pub exists : i < length (s .channels)
@@ -105,6 +105,8 @@ pub record Begins (b : Begin) (s : State) (i : ℕ) : Type 0 where
   pub falls : asymmetric (channel s i .dynamics) ≡ b .falls
   pub spin-up : spinCode (channel s i .config) ≡ b .spin-up
   pub clock : s .timer .clock ≡ b .clock
+  pub wait : s .timer .wait ≡ 0
+  pub others : (n : ℕ) → (n ≡ i → ⊥) → (channel s n .ramp ≡ 0) × (channel s n .target ≡ 0)
 
 pub record Watched (code : ℕ) (s : State) : Type 0 where
   pub is-valid : validOf s ≡ true

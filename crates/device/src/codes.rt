@@ -1,12 +1,14 @@
 // What the codes of the registers stand for.
 ghost use mathlib.Core.Path.{_≡_};
 ghost use Prim.Native.Nat.{_%_, _^_, _≤_};
-ghost use Rattle.rules.specs.Time.{watchdogLimit, spinTicks, endsEarly, ratePeriod};
+ghost use Rattle.rules.specs.Time.{watchdogLimit, spinTicks, startDelay, endsEarly, ratePeriod};
 ghost use Rattle.rules.specs.Tachometer.{queueLength};
 
 const WATCHDOG_LIMITS: [u16; 4] = [0, 2560, 5120, 15360];
 
 const SPIN_TICKS: [u16; 4] = [0, 256, 512, 1024];
+
+const START_DELAYS: [u16; 8] = [0, 128, 256, 512, 1024, 2048, 2048, 2048];
 
 const QUEUE_LENGTHS: [u8; 4] = [1, 2, 4, 6];
 
@@ -29,6 +31,16 @@ pub fn spin_ticks(code: u8) -> u16
 {
     if code < 4 {
         return SPIN_TICKS[code as usize];
+    }
+    0
+}
+
+// How long after a channel has left ramp value 0 no other may.
+pub fn start_delay(code: u8) -> u16
+    ensures { λ r. ⌜ r ≡ startDelay code ⌝ }
+{
+    if code < 8 {
+        return START_DELAYS[code as usize];
     }
     0
 }

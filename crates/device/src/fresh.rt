@@ -45,6 +45,7 @@ pub fn as_at_start(start: StartValues, clock: u32, pin: bool) -> State
         timer: Timer {
             clock: clock,
             idle: 0,
+            wait: 0,
             expired: false,
             status: false,
         },

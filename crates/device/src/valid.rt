@@ -2,7 +2,7 @@
 ghost use mathlib.Core.Path.{_≡_};
 ghost use Rattle.rules.specs.Basics.{every};
 ghost use Rattle.rules.specs.Calls.{isChannel};
-ghost use Rattle.rules.specs.Valid.{validSettings, validResults, validMotion, validChannel, validPulses, validRegisters, validStart, validTimer, validOf};
+ghost use Rattle.rules.specs.Valid.{validSettings, validResults, validMotion, validChannel, validPulses, validRegisters, validStart, validWatchdog, validTimer, validOf};
 ghost use Rattle.laws.proofs.Valid.{noneCounted};
 use crate::codes::ends_early;
 use crate::codes::watchdog_limit;
@@ -116,8 +116,8 @@ fn valid_start(start: StartValues) -> bool
     (start.watchdog < 4) & (start.spinup < 4) & (start.target < 512) & (start.modification < 2)
 }
 
-fn valid_timer(code: u8, timer: Timer) -> bool
-    ensures { λ r. ⌜ r ≡ validTimer code timer ⌝ }
+fn valid_watchdog(code: u8, timer: Timer) -> bool
+    ensures { λ r. ⌜ r ≡ validWatchdog code (timer .idle) (timer .expired) ⌝ }
 {
     if code == 0 {
         return (timer.idle == 0) & !timer.expired;
@@ -127,6 +127,12 @@ fn valid_timer(code: u8, timer: Timer) -> bool
         return timer.idle == limit;
     }
     timer.idle < limit
+}
+
+fn valid_timer(code: u8, timer: Timer) -> bool
+    ensures { λ r. ⌜ r ≡ validTimer code timer ⌝ }
+{
+    valid_watchdog(code, timer) & (timer.wait <= 2048)
 }
 
 pub fn valid(state: State) -> bool

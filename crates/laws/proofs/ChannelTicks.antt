@@ -51,7 +51,7 @@ ticks-held (suc m) t ch = ticks-held m (t + 1) ch
 abbrev Moved : Channel → Channel → Type 0
 Moved ch next = (ramp : ℕ) × (spin : ℕ) × (pulses : ℕ) × (next ≡ withMotion ch ramp spin pulses)
 
-tick-moves : (held : Bool) (c : ℕ) (ch : Channel) → Moved ch (channelTick held c ch)
+pub tick-moves : (held : Bool) (c : ℕ) (ch : Channel) → Moved ch (channelTick held c ch)
 unfolding channelTick
 tick-moves true c ch = (ch .ramp, ch .spin, ch .pulses, refl)
 tick-moves false c ch =

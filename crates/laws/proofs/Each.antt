@@ -20,6 +20,10 @@ map-at f (x ∷ xs) (suc i) d e h = map-at f xs i d e (omega arith)
 pub past-four : (entry : ℕ → ℕ) → ((n : ℕ) → 0 ≡ entry (suc (suc (suc (suc n))))) → (code : ℕ) → 4 ≤ code → 0 ≡ entry code
 past-four entry none code h = let e : suc (suc (suc (suc (code - 4)))) ≡ code = omega arith in none (code - 4) ∙ ap entry e
 
+pub past-eight : (entry : ℕ → ℕ) → ((n : ℕ) → 0 ≡ entry (suc (suc (suc (suc (suc (suc (suc (suc n))))))))) → (code : ℕ) → 8 ≤ code → 0 ≡ entry code
+past-eight entry none code h =
+    let e : suc (suc (suc (suc (suc (suc (suc (suc (code - 8)))))))) ≡ code = omega arith in none (code - 8) ∙ ap entry e
+
 -- as many elements before the change as after it
 pub length-before : (A B : Type 0) (f : A → B) (xs : List A) (n : ℕ) → length (map f xs) ≡ n → length xs ≡ n
 length-before A B f xs n e = sym (length-map xs f) ∙ e

@@ -10,19 +10,19 @@ use lib.ListN.{set}
 use borrow.Author.Tests.{lt-ltb, eqb-true}
 use Rattle.laws.proofs.Types.{Channel, Registers, StartValues, Timer, State, BoxRegister, Control, Frequency, Mask2, Mask1, Options, ChannelRegister, Config, Dynamics, Window, WordRegister, Target, TargetCount, Place, Absent, ReadOnly, Shared, Own, OwnWord, Answer, ReadAnswer}
 use Rattle.rules.specs.Basics.{_implies_, every, bit, bits}
-use Rattle.rules.specs.State.{channel, withSettings, withChannels, withRegisters, registers, startValues, timer}
+use Rattle.rules.specs.State.{channel, withSettings, withChannels, withRegisters, registers, startValues}
 use Rattle.rules.specs.Registers.{standby, watchdogCode, monitorOnly, controlKept, dynamicsKept, maskKept, optionsKept, configRefused, targetCount}
 use Rattle.rules.specs.Words.{shownIn}
 use Rattle.rules.specs.Time.{watchdogLimit, endsEarly}
 use Rattle.rules.specs.Map.{placeAt, isCarried}
-use Rattle.rules.specs.Valid.{validMotion, validChannel, validPulses, validRegisters, validStart, validTimer, validOf}
+use Rattle.rules.specs.Valid.{validMotion, validChannel, validPulses, validRegisters, validStart, validWatchdog, validTimer, validOf}
 use Rattle.rules.specs.Start.{startChannel, asAtStart, zeroState, startOf}
 use Rattle.rules.specs.Write.{stopped, channelWritten, reset, boxWritten, written, writeRefusal, writeOf}
 use Rattle.rules.specs.WriteWord.{targetWritten, wordWritten, wordRefusal, writeWordOf}
 use Rattle.rules.specs.Read.{afterRead, readAt, readOf}
 use Rattle.rules.specs.Calls.{accepted, unlessRefused, accessed}
 use Rattle.rules.proofs.Tests.{by-test, same, choice, and-left, and-both, allBelow, all-below, every-weaker, every-map, every-replicate}
-use Rattle.laws.proofs.Valid.{parts, valid-of-parts, ChannelParts, channel-parts, valid-of-channel-parts, channel-set, no-pulses, pulses-set, settings-parts, registers-parts, valid-of-registers-parts, start-target-lt, four, of-four}
+use Rattle.laws.proofs.Valid.{parts, valid-of-parts, ChannelParts, channel-parts, valid-of-channel-parts, channel-set, no-pulses, pulses-set, settings-parts, registers-parts, valid-of-registers-parts, start-target-lt, four, of-four, wait-low, valid-timer-of}
 
 -- ---- what a register keeps of a number it keeps again: by a test of every byte, since it looks at the low eight bits alone
 
@@ -64,11 +64,9 @@ standby-kept b =
 
 -- ---- the timer after an accepted access
 
-fresh-timer : (code : ℕ) (t : Timer) → t .idle ≡ 0 → t .expired ≡ false → code < 4 → validTimer code t ≡ true
-unfolding validTimer watchdogLimit
-fresh-timer code t i e h =
-    let fresh = timer 0 0 false false in
-    rw (i, e) (all-below 4 (λ k. validTimer k fresh) refl code h)
+fresh-timer : (code : ℕ) (t : Timer) → t .idle ≡ 0 → t .expired ≡ false → leb (t .wait) 2048 ≡ true → code < 4 → validTimer code t ≡ true
+unfolding watchdogLimit
+fresh-timer code t i e w h = valid-timer-of code t (rw (i, e) (all-below 4 (λ k. validWatchdog k 0 false) refl code h)) w
 
 -- a state whose watchdog has just been fed, valid but for its timer: so it is valid
 record Fed (s : State) : Type 0 where
@@ -78,6 +76,7 @@ record Fed (s : State) : Type 0 where
   pulses : every (validPulses (endsEarly (s .start .modification))) (s .channels) ≡ true
   idle : s .timer .idle ≡ 0
   expired : s .timer .expired ≡ false
+  wait : leb (s .timer .wait) 2048 ≡ true
 
 fed-valid : (s : State) → Fed s → validOf s ≡ true
 fed-valid s f =
@@ -85,7 +84,7 @@ fed-valid s f =
     (record {
       registers = f .registers;
       start = f .start;
-      timer = fresh-timer (watchdogCode (s .registers .control)) (s .timer) (f .idle) (f .expired) (omega arith);
+      timer = fresh-timer (watchdogCode (s .registers .control)) (s .timer) (f .idle) (f .expired) (f .wait) (omega arith);
       channels = f .channels;
       pulses = f .pulses;
     })
@@ -93,13 +92,13 @@ fed-valid s f =
 accessed-fed : (s : State) → validOf s ≡ true → Fed (accessed s)
 accessed-fed s e =
     let p = parts s e in
-    record { registers = p .registers; start = p .start; channels = p .channels; pulses = p .pulses; idle = refl; expired = refl }
+    record { registers = p .registers; start = p .start; channels = p .channels; pulses = p .pulses; idle = refl; expired = refl; wait = wait-low _ (s .timer) (p .timer) }
 
 -- it stays so with other registers and channels that are valid together
 rebuilt-fed : (s : State) (r : Registers) (chs : List Channel) → validRegisters r ≡ true →
     every (validChannel (standby (r .control))) chs ≡ true → every (validPulses (endsEarly (s .start .modification))) chs ≡ true →
     Fed s → Fed (withChannels (withRegisters s r) chs)
-rebuilt-fed s r chs v w p f = record { registers = v; start = f .start; channels = w; pulses = p; idle = f .idle; expired = f .expired }
+rebuilt-fed s r chs v w p f = record { registers = v; start = f .start; channels = w; pulses = p; idle = f .idle; expired = f .expired; wait = f .wait }
 
 -- ---- a channel
 
@@ -206,6 +205,7 @@ as-at-start v clock pin e =
       pulses = every-replicate (validPulses (endsEarly (v .modification))) 6 (startChannel v) (no-pulses _ (startChannel v) refl);
       idle = refl;
       expired = refl;
+      wait = refl;
     }
 
 zero-valid : validOf zeroState ≡ true
@@ -330,7 +330,7 @@ module _ (s : State) (valid : validOf s ≡ true) where
   after-read-valid : (a : ℕ) → validOf (afterRead s a) ≡ true
   after-read-valid a =
       let f = accessed-fed s valid in
-      fed-valid (afterRead s a) (record { registers = f .registers; start = f .start; channels = f .channels; pulses = f .pulses; idle = refl; expired = refl })
+      fed-valid (afterRead s a) (record { registers = f .registers; start = f .start; channels = f .channels; pulses = f .pulses; idle = refl; expired = refl; wait = f .wait })
 
   pub read-valid : (a : ℕ) → validOf (readOf s a .state) ≡ true
   unfolding readOf readAt

@@ -14,7 +14,11 @@ pub mod Duty
 pub mod Exact
 pub mod Revolutions
 pub mod Iterate
+pub mod Turns
 pub mod Ramp
 pub mod ChannelTicks
 pub mod TickValid
+pub mod Waiting
+pub mod Rows
+pub mod OwnWay
 pub mod StateTicks

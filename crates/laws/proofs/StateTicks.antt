@@ -2,23 +2,21 @@
 use Prim.Native.Nat.{ℕ, zero, suc, _+_, _-_, _%_, _^_, _<_}
 use mathlib.Core.Path.{_≡_, refl, sym, _∙_, ap, ap₂}
 use mathlib.Core.Bool.{Bool, true, false, not, _||_, false≢true, or-true}
-use mathlib.Core.List.{List, [], _∷_, map}
 use native.Mathlib.Nat.{add-zero, mod-lt}
 use native.Mathlib.Omega.{arith}
 use lib.Dec.{eqb, lit<}
 use borrow.Author.Tests.{ltb-true, le-leb, lt-leb}
-use Rattle.laws.proofs.Types.{Channel, Timer, State, Conditions}
-use Rattle.rules.specs.Basics.{if_then_else_, some}
+use Rattle.laws.proofs.Types.{Channel, State, Conditions}
+use Rattle.rules.specs.Basics.{if_then_else_}
 use Rattle.rules.specs.State.{timer, withChannels, withTimer}
 use Rattle.rules.specs.Registers.{monitorOnly, watchdogCode}
 use Rattle.rules.specs.Duty.{conditionsOf, overrideBy}
-use Rattle.rules.specs.Valid.{validTimer, validOf}
-use Rattle.rules.specs.Tick.{overridden, idleLimit, timerTick, channelTick, channelsTick, tick, iterate}
+use Rattle.rules.specs.Valid.{validOf}
+use Rattle.rules.specs.Tick.{overridden, idleLimit, timerTick, delayOf, tick, iterate}
 use Rattle.rules.proofs.Tests.{by-test}
-use Rattle.laws.proofs.Valid.{parts}
-use Rattle.laws.proofs.Each.{map-same}
+use Rattle.laws.proofs.Valid.{parts, valid-watchdog}
 use Rattle.laws.proofs.Iterate.{iterate-first, iterate-last, iterate-add}
-use Rattle.laws.proofs.ChannelTicks.{channelTicks, ticks-last, ticks-held, ticks-move}
+use Rattle.laws.proofs.Rows.{Row, rowTick, rowTicks, rows-last, rows-fault, row-frozen, rows-frozen}
 
 -- ---- the timer
 
@@ -43,18 +41,6 @@ clock-wraps t (suc k) h = refl
 
 -- ---- the overrides
 
--- they look at nothing that a tick of a channel changes
-some-fault-ticks : (held : Channel → Bool) (m t : ℕ) (chs : List Channel) →
-    some (λ ch. ch .fault) (map (λ ch. channelTicks (held ch) m t ch) chs) ≡ some (λ ch. ch .fault) chs
-some-fault-ticks held m t [] = refl
-some-fault-ticks held m t (ch ∷ chs) =
-    ap₂ (λ a b. a || b) (ap (λ (x : Channel). x .fault) (ticks-move (held ch) m t ch .3)) (some-fault-ticks held m t chs)
-
-pub overridden-ticks : (k : Conditions) (held : Bool) (m t : ℕ) (ch : Channel) →
-    overridden k (channelTicks held m t ch) ≡ overridden k ch
-unfolding overrideBy
-overridden-ticks k held m t ch = rw (ticks-move held m t ch .3) refl
-
 -- an expired watchdog overrides
 expired-overrides : (k : Conditions) (ch : Channel) → k .expired ≡ true → overridden k ch ≡ true
 unfolding overrideBy
@@ -66,22 +52,25 @@ expired-overrides k ch x =
 
 -- ---- the state, short of the watchdog's limit
 
--- m ticks of every channel, under the overrides of now
-abbrev pub eachAfter : Conditions → ℕ → ℕ → List Channel → List Channel
-eachAfter k m t chs = map (λ ch. channelTicks (overridden k ch) m t ch) chs
+-- the wait and the channels of a state; and m ticks of them, under the overrides of now
+abbrev pub rowOf : State → Row
+rowOf s = (s .timer .wait, s .channels)
 
-unfoldable pub channelsAfter : ℕ → State → List Channel
-channelsAfter m s = eachAfter (conditionsOf s) m (s .timer .clock) (s .channels)
+unfoldable pub rowAfter : ℕ → State → Row
+rowAfter m s = rowTicks (conditionsOf s) (delayOf s) m (s .timer .clock) (rowOf s)
 
--- the state with other channels, clock and idle count
-abbrev pub timed : State → List Channel → ℕ → ℕ → Bool → Bool → State
-timed s chs clock idle expired status = withChannels (withTimer s (timer clock idle expired status)) chs
+-- the state with other channels, wait, clock and idle count
+abbrev pub timed : State → Row → ℕ → ℕ → Bool → Bool → State
+timed s row clock idle expired status = withChannels (withTimer s (timer clock idle expired status (row .0))) (row .1)
 
 -- a tick, once its steps 1 and 2 are worked out
-tick-at : (s : State) (t : Timer) → timerTick (watchdogCode (s .registers .control)) (s .timer) ≡ t →
-    tick s ≡ withChannels (withTimer s t) (channelsTick (conditionsOf (withTimer s t)) (t .clock) (s .channels))
-unfolding tick
-tick-at s t e = rw e refl
+module _ (s : State) (row : Row) (clock idle next-clock next-idle : ℕ) (expired status next-expired next-status : Bool) (k : Conditions) where
+  tick-timed : timerTick (watchdogCode (s .registers .control)) (timer clock idle expired status (row .0))
+      ≡ timer next-clock next-idle next-expired next-status (row .0 - 1) →
+      conditionsOf (timed s row next-clock next-idle next-expired next-status) ≡ k →
+      tick (timed s row clock idle expired status) ≡ timed s (rowTick k (delayOf s) next-clock row) next-clock next-idle next-expired next-status
+  unfolding tick rowTick conditionsOf
+  tick-timed e cond = rw (e, ← cond) refl
 
 module _ (s : State) where
   idleAt : ℕ → ℕ
@@ -90,65 +79,43 @@ module _ (s : State) where
   -- k ticks that the watchdog does not end
   unfoldable pub ahead : ℕ → State
   unfolding idleAt
-  ahead k = timed s (channelsAfter k s) (clockAt (s .timer .clock) k) (idleAt k) (s .timer .expired) (s .timer .status)
+  ahead k = timed s (rowAfter k s) (clockAt (s .timer .clock) k) (idleAt k) (s .timer .expired) (s .timer .status)
 
   -- the conditions stay
-  same-conditions : (k clock idle : ℕ) → conditionsOf (timed s (channelsAfter k s) clock idle (s .timer .expired) (s .timer .status)) ≡ conditionsOf s
-  unfolding conditionsOf channelsAfter
-  same-conditions k clock idle =
-      rw (some-fault-ticks (overridden (conditionsOf s)) k (s .timer .clock) (s .channels)) refl
+  same-conditions : (k clock idle : ℕ) → conditionsOf (timed s (rowAfter k s) clock idle (s .timer .expired) (s .timer .status)) ≡ conditionsOf s
+  unfolding conditionsOf rowAfter
+  same-conditions k clock idle = rw (rows-fault (conditionsOf s) (delayOf s) k (s .timer .clock) (rowOf s)) refl
 
   pub ahead-conditions : (k : ℕ) → conditionsOf (ahead k) ≡ conditionsOf s
   unfolding ahead
   ahead-conditions k = same-conditions k (clockAt (s .timer .clock) k) (idleAt k)
 
-  -- where the watchdog counts, it has counted them
-  pub ahead-idle : (k : ℕ) → counting (ahead k) ≡ true → ahead k .timer .idle ≡ s .timer .idle + k
-  unfolding ahead idleAt
-  ahead-idle k on = rw on refl
-
-  timer-step : (k : ℕ) → (counting s ≡ true → s .timer .idle + suc k < idleLimit s) →
-      timerTick (watchdogCode (s .registers .control)) (timer (clockAt (s .timer .clock) k) (idleAt k) (s .timer .expired) (s .timer .status))
-      ≡ timer ((s .timer .clock + suc k) % 2 ^ 32) (idleAt (suc k)) (s .timer .expired) (s .timer .status)
+  timer-step : (k wait : ℕ) → (counting s ≡ true → s .timer .idle + suc k < idleLimit s) →
+      timerTick (watchdogCode (s .registers .control)) (timer (clockAt (s .timer .clock) k) (idleAt k) (s .timer .expired) (s .timer .status) wait)
+      ≡ timer ((s .timer .clock + suc k) % 2 ^ 32) (idleAt (suc k)) (s .timer .expired) (s .timer .status) (wait - 1)
   unfolding timerTick idleAt
-  timer-step k h =
+  timer-step k wait h =
       by-test (eqb (watchdogCode (s .registers .control)) 0 || s .timer .expired)
       (λ e. rw (e, clock-next (s .timer .clock) k) refl)
       (λ e. let l = h (rw e refl) in
       let i : s .timer .idle + k + 1 ≡ s .timer .idle + suc k = omega arith in
       rw (e, clock-next (s .timer .clock) k, i, lt-leb _ _ l) refl)
 
-  channels-step : (k : ℕ) (chs : List Channel) →
-      channelsTick (conditionsOf s) ((s .timer .clock + suc k) % 2 ^ 32) (eachAfter (conditionsOf s) k (s .timer .clock) chs)
-      ≡ eachAfter (conditionsOf s) (suc k) (s .timer .clock) chs
-  unfolding channelsTick
-  channels-step k [] = refl
-  channels-step k (ch ∷ chs) =
-      let held = overridden (conditionsOf s) ch in
-      ap₂ (λ x xs. x ∷ xs)
-      (ap (λ b. channelTick b ((s .timer .clock + suc k) % 2 ^ 32) (channelTicks held k (s .timer .clock) ch)) (overridden-ticks (conditionsOf s) held k (s .timer .clock) ch)
-      ∙ sym (ticks-last held k (s .timer .clock) ch))
-      (channels-step k chs)
-
   ahead-step : (k : ℕ) → (counting s ≡ true → s .timer .idle + suc k < idleLimit s) → tick (ahead k) ≡ ahead (suc k)
-  unfolding ahead clockAt channelsAfter
+  unfolding ahead clockAt rowAfter
   ahead-step k h =
       let clock = (s .timer .clock + suc k) % 2 ^ 32 in
-      tick-at (ahead k) (timer clock (idleAt (suc k)) (s .timer .expired) (s .timer .status)) (timer-step k h)
-      ∙ ap (λ c. timed s (channelsTick c clock (channelsAfter k s)) clock (idleAt (suc k)) (s .timer .expired) (s .timer .status))
-      (same-conditions k clock (idleAt (suc k)))
-      ∙ ap (λ chs. timed s chs clock (idleAt (suc k)) (s .timer .expired) (s .timer .status)) (channels-step k (s .channels))
-
-  channels-none : (chs : List Channel) → eachAfter (conditionsOf s) 0 (s .timer .clock) chs ≡ chs
-  unfolding channelTicks
-  channels-none chs = map-same _ (λ ch. refl) chs
+      tick-timed s (rowAfter k s) _ _ clock (idleAt (suc k)) (s .timer .expired) (s .timer .status) (s .timer .expired) (s .timer .status) (conditionsOf s)
+      (timer-step k (rowAfter k s .0) h) (same-conditions k clock (idleAt (suc k)))
+      ∙ ap (λ row. timed s row clock (idleAt (suc k)) (s .timer .expired) (s .timer .status))
+      (sym (rows-last (conditionsOf s) (delayOf s) k (s .timer .clock) (rowOf s)))
 
   ahead-none : ahead 0 ≡ s
-  unfolding ahead channelsAfter clockAt idleAt
+  unfolding ahead rowAfter rowTicks clockAt idleAt
   ahead-none =
       let i : (if counting s then s .timer .idle + 0 else s .timer .idle) ≡ s .timer .idle =
       by-test (counting s) (λ e. rw (e, add-zero)) (λ e. rw e refl) in
-      rw (channels-none (s .channels), i) refl
+      rw i refl
 
   pub ticks-ahead : (k : ℕ) → (counting s ≡ true → s .timer .idle + k < idleLimit s) → iterate k tick s ≡ ahead k
   ticks-ahead zero h = unfold iterate in sym ahead-none
@@ -158,7 +125,7 @@ module _ (s : State) where
 
 -- the watchdog does not count: it is off, or it has expired
 pub free-ticks : (n : ℕ) (s : State) → s .timer .clock < 2 ^ 32 → counting s ≡ false →
-    iterate n tick s ≡ timed s (channelsAfter n s) ((s .timer .clock + n) % 2 ^ 32) (s .timer .idle) (s .timer .expired) (s .timer .status)
+    iterate n tick s ≡ timed s (rowAfter n s) ((s .timer .clock + n) % 2 ^ 32) (s .timer .idle) (s .timer .expired) (s .timer .status)
 unfolding ahead idleAt
 free-ticks n s fits f =
     ticks-ahead s n (λ c. absurd (false≢true (sym f ∙ c))) ∙ rw (clock-wraps (s .timer .clock) n fits, f) refl
@@ -166,17 +133,14 @@ free-ticks n s fits f =
 -- it counts, and stays short of its limit
 pub counting-ticks : (n : ℕ) (s : State) → s .timer .clock < 2 ^ 32 → counting s ≡ true →
     s .timer .idle + n < idleLimit s →
-    iterate n tick s ≡ timed s (channelsAfter n s) ((s .timer .clock + n) % 2 ^ 32) (s .timer .idle + n) (s .timer .expired) (s .timer .status)
+    iterate n tick s ≡ timed s (rowAfter n s) ((s .timer .clock + n) % 2 ^ 32) (s .timer .idle + n) (s .timer .expired) (s .timer .status)
 unfolding ahead idleAt
 counting-ticks n s fits c l = ticks-ahead s n (λ e. l) ∙ rw (clock-wraps (s .timer .clock) n fits, c) refl
 
--- an expired watchdog freezes all but the clock
-frozen-ticks : (s : State) → s .timer .expired ≡ true → (m : ℕ) → channelsAfter m s ≡ s .channels
-unfolding channelsAfter conditionsOf
-frozen-ticks s x m =
-    map-same _
-    (λ ch. ap (λ b. channelTicks b m (s .timer .clock) ch) (expired-overrides (conditionsOf s) ch x) ∙ ticks-held m (s .timer .clock) ch)
-    (s .channels)
+-- an expired watchdog freezes all but the clock and the wait
+frozen-ticks : (s : State) → s .timer .expired ≡ true → (m : ℕ) → rowAfter m s ≡ (s .timer .wait - m, s .channels)
+unfolding rowAfter conditionsOf
+frozen-ticks s x m = rows-frozen (conditionsOf s) (delayOf s) (λ ch. expired-overrides (conditionsOf s) ch x) m (s .timer .clock) (rowOf s)
 
 pub counting-live : (s : State) → counting s ≡ true → (eqb (watchdogCode (s .registers .control)) 0 ≡ false) × (s .timer .expired ≡ false)
 counting-live s c = neither (eqb (watchdogCode (s .registers .control)) 0) (s .timer .expired) c
@@ -187,12 +151,9 @@ counting-live s c = neither (eqb (watchdogCode (s .registers .control)) 0) (s .t
     neither false false e = (refl, refl)
 
 pub counting-below : (s : State) → validOf s ≡ true → counting s ≡ true → s .timer .idle < idleLimit s
-unfolding validTimer
-counting-below s v c = let l = counting-live s c in ltb-true _ _ (rw (l .0, l .1) at (parts s v .timer))
-
-frozen-tick : (k : Conditions) → k .expired ≡ true → (clock : ℕ) (chs : List Channel) → channelsTick k clock chs ≡ chs
-unfolding channelTick channelsTick
-frozen-tick k x clock chs = map-same _ (λ ch. ap (λ b. channelTick b clock ch) (expired-overrides k ch x)) chs
+counting-below s v c =
+    let l = counting-live s c in
+    ltb-true _ _ (rw (l .0, l .1) at (valid-watchdog (watchdogCode (s .registers .control)) (s .timer) (parts s v .timer)))
 
 -- it counts, and reaches its limit: the tick in which it expires is already frozen
 module _ (s : State) (c : counting s ≡ true) (below : s .timer .idle < idleLimit s) where
@@ -200,39 +161,40 @@ module _ (s : State) (c : counting s ≡ true) (below : s .timer .idle < idleLim
   abbrev room : ℕ
   room = idleLimit s - s .timer .idle - 1
 
-  -- the state from that one on
-  abbrev over : ℕ → State
-  over clock = timed s (channelsAfter room s) clock (idleLimit s) true true
+  -- the state r ticks after that one
+  abbrev over : ℕ → ℕ → State
+  over r clock = timed s (rowAfter room s .0 - suc r, rowAfter room s .1) clock (idleLimit s) true true
 
-  expiry : timerTick (watchdogCode (s .registers .control)) (ahead s room .timer)
-      ≡ timer ((s .timer .clock + suc room) % 2 ^ 32) (idleLimit s) true true
-  unfolding timerTick ahead idleAt
-  expiry =
+  expiry : (wait : ℕ) → timerTick (watchdogCode (s .registers .control)) (timer (clockAt (s .timer .clock) room) (idleAt s room) (s .timer .expired) (s .timer .status) wait)
+      ≡ timer ((s .timer .clock + suc room) % 2 ^ 32) (idleLimit s) true true (wait - 1)
+  unfolding timerTick idleAt
+  expiry wait =
       let l = counting-live s c in
       let limit = idleLimit s in
       let i : s .timer .idle + room + 1 ≡ limit = omega arith in
       rw (l .0, l .1, clock-next (s .timer .clock) room, i, le-leb limit limit (omega arith)) refl
 
-  expires : tick (ahead s room) ≡ over ((s .timer .clock + suc room) % 2 ^ 32)
+  expires : tick (ahead s room) ≡ over 0 ((s .timer .clock + suc room) % 2 ^ 32)
   unfolding ahead
   expires =
       let clock = (s .timer .clock + suc room) % 2 ^ 32 in
-      let t = timer clock (idleLimit s) true true in
-      tick-at (ahead s room) t expiry
-      ∙ ap (λ chs. timed s chs clock (idleLimit s) true true)
-      (frozen-tick (conditionsOf (withTimer (ahead s room) t)) (unfold conditionsOf in refl) clock (channelsAfter room s))
+      let k = conditionsOf (timed s (rowAfter room s) clock (idleLimit s) true true) in
+      tick-timed s (rowAfter room s) _ _ clock (idleLimit s) (s .timer .expired) (s .timer .status) true true k (expiry (rowAfter room s .0)) refl
+      ∙ ap (λ row. timed s row clock (idleLimit s) true true)
+      (row-frozen k (delayOf s) (λ ch. expired-overrides k ch (unfold conditionsOf in refl)) clock (rowAfter room s))
 
-  pub expiring-ticks : (n : ℕ) → room < n → iterate n tick s ≡ over ((s .timer .clock + n) % 2 ^ 32)
+  pub expiring-ticks : (n : ℕ) → room < n → iterate n tick s ≡ over (n - suc room) ((s .timer .clock + n) % 2 ^ 32)
   expiring-ticks n h =
-      let r = n - room - 1 in
+      let r = n - suc room in
       let e : n ≡ room + suc r = omega arith in
       let first = (s .timer .clock + suc room) % 2 ^ 32 in
       let k : (first + r) % 2 ^ 32 ≡ (s .timer .clock + n) % 2 ^ 32 = omega arith in
+      let w : rowAfter room s .0 - 1 - r ≡ rowAfter room s .0 - suc r = omega arith in
       ap (λ m. iterate m tick s) e
       ∙ iterate-add tick room (suc r) s
       ∙ ap (iterate (suc r) tick) (ticks-ahead s room (λ _. omega arith))
       ∙ iterate-first tick r (ahead s room)
       ∙ ap (iterate r tick) expires
-      ∙ free-ticks r (over first) (mod-lt _ (lit< tt)) (ap not (or-true (eqb (watchdogCode (s .registers .control)) 0)))
-      ∙ ap (λ chs. timed s chs ((first + r) % 2 ^ 32) (idleLimit s) true true) (frozen-ticks (over first) refl r)
-      ∙ ap over k
+      ∙ free-ticks r (over 0 first) (mod-lt _ (lit< tt)) (ap not (or-true (eqb (watchdogCode (s .registers .control)) 0)))
+      ∙ ap (λ row. timed s row ((first + r) % 2 ^ 32) (idleLimit s) true true) (frozen-ticks (over 0 first) refl r)
+      ∙ ap₂ (λ wait clock. timed s (wait, rowAfter room s .1) clock (idleLimit s) true true) w k

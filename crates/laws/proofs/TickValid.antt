@@ -1,34 +1,45 @@
 -- A tick keeps a valid state valid.
 use Prim.Native.Nat.{ℕ, zero, suc, _+_, _-_, _%_, _≤_, _<_}
 use mathlib.Core.Path.{_≡_, refl, sym, _∙_}
-use mathlib.Core.Bool.{Bool, true, false, not, _||_}
-use mathlib.Core.List.{List}
+use mathlib.Core.Bool.{Bool, true, false, _||_}
 use native.Mathlib.Omega.{arith}
 use lib.Dec.{leb, ltb, eqb, lit<}
 use borrow.Author.Tests.{ltb-true, ltb-false, leb-true, leb-false, eqb-true, eqb-false, lt-ltb, le-leb, eq-eqb}
 use Rattle.laws.proofs.Types.{Channel, Timer, State, Conditions}
-use Rattle.rules.specs.Basics.{_implies_, every}
-use Rattle.rules.specs.State.{withMotion}
-use Rattle.rules.specs.Registers.{monitorOnly, spinCode, rateCode}
-use Rattle.rules.specs.Time.{watchdogLimit, spinTicks}
+use Rattle.rules.specs.Basics.{_implies_}
+use Rattle.rules.specs.State.{withWait, withMotion, withTimer}
+use Rattle.rules.specs.Registers.{monitorOnly, spinCode, rateCode, watchdogCode, delayCode}
+use Rattle.rules.specs.Time.{watchdogLimit, spinTicks, startDelay, endsEarly}
 use Rattle.rules.specs.Duty.{conditionsOf, overrideBy}
 use Rattle.rules.specs.Valid.{validMotion, validChannel, validPulses, validTimer, validOf}
-use Rattle.rules.specs.Tick.{wanted, periodOf, spinUpDue, overridden, timerTick, toward, spinLeft, channelTick, channelsTick, tick, iterate}
-use Rattle.rules.proofs.Tests.{by-test, choice, all-below, every-map}
-use Rattle.laws.proofs.Valid.{parts, valid-of-parts, ChannelParts, channel-parts, valid-of-channel-parts, settings-parts, no-pulses, four, of-four}
+use Rattle.rules.specs.Tick.{wanted, periodOf, spinUpDue, overridden, timerTick, toward, spinLeft, channelTick, ruleAt, delayOf, tick, iterate}
+use Rattle.rules.proofs.Tests.{and-both, by-test, choice, all-below}
+use Rattle.laws.proofs.Valid.{parts, valid-of-parts, valid-watchdog, wait-low, valid-timer-of, ChannelParts, channel-parts, valid-of-channel-parts, settings-parts, no-pulses, four, of-four}
 use Rattle.laws.proofs.Ramp.{toward-lt}
+use Rattle.laws.proofs.Turns.{turns-keep, wait-below}
 
 -- ---- the timer
 
 timer-tick-valid : (code : ℕ) (t : Timer) → validTimer code t ≡ true → validTimer code (timerTick code t) ≡ true
 unfolding validTimer timerTick
-timer-tick-valid code t h =
-    by-test (eqb code 0) (λ e. rw e (rw e at h))
-    (λ e. by-test (t .expired) (λ x. rw (e, x) (rw (e, x) at h))
+timer-tick-valid code t v =
+    let h = valid-watchdog code t v in
+    let w : leb (t .wait - 1) 2048 ≡ true = le-leb (t .wait - 1) 2048 (omega (arith, leb-true (t .wait) 2048 (wait-low code t v))) in
+    by-test (eqb code 0) (λ e. rw e (and-both _ _ (rw e at h) w))
+    (λ e. by-test (t .expired) (λ x. rw (e, x) (and-both _ _ (rw (e, x) at h) w))
     (λ x. let l : t .idle < watchdogLimit code = ltb-true _ _ (rw (e, x) at h) in
     by-test (leb (watchdogLimit code) (t .idle + 1))
-    (λ m. rw (e, x, m) (eq-eqb (t .idle + 1) (watchdogLimit code) (omega (arith, leb-true (watchdogLimit code) (t .idle + 1) m))))
-    (λ m. rw (e, x, m) (lt-ltb (t .idle + 1) (watchdogLimit code) (leb-false (watchdogLimit code) (t .idle + 1) m)))))
+    (λ m. rw (e, x, m) (and-both _ _ (eq-eqb (t .idle + 1) (watchdogLimit code) (omega (arith, leb-true (watchdogLimit code) (t .idle + 1) m))) w))
+    (λ m. rw (e, x, m) (and-both _ _ (lt-ltb (t .idle + 1) (watchdogLimit code) (leb-false (watchdogLimit code) (t .idle + 1) m)) w))))
+
+-- with the wait that the channels leave
+waited-valid : (code : ℕ) (t : Timer) (wait : ℕ) → validTimer code t ≡ true → wait ≤ 2048 → validTimer code (withWait t wait) ≡ true
+waited-valid code t wait v l = valid-timer-of code (withWait t wait) (valid-watchdog code t v) (le-leb wait 2048 l)
+
+delay-low : (s : State) → delayOf s ≤ 2048
+unfolding startDelay
+delay-low s =
+    leb-true _ 2048 (all-below 8 (λ code. leb (startDelay code) 2048) refl (delayCode (s .registers .options)) (omega arith))
 
 -- ---- a channel
 
@@ -133,28 +144,25 @@ tick-pulses early held c ch v =
 
 -- ---- the state
 
-channels-tick-valid : (k : Conditions) (c : ℕ) (chs : List Channel) → every (validChannel (k .standby)) chs ≡ true →
-    every (validChannel (k .standby)) (channelsTick k c chs) ≡ true
-unfolding channelsTick
-channels-tick-valid k c chs e = every-map (validChannel _) (validChannel _) _ (channel-tick-valid k c) chs e
-
-channels-tick-pulses : (early : Bool) (k : Conditions) (c : ℕ) (chs : List Channel) → every (validPulses early) chs ≡ true →
-    every (validPulses early) (channelsTick k c chs) ≡ true
-unfolding channelsTick
-channels-tick-pulses early k c chs e =
-    every-map (validPulses early) (validPulses early) _ (λ ch. tick-pulses early (overridden k ch) c ch) chs e
-
 pub tick-valid : (s : State) → validOf s ≡ true → validOf (tick s) ≡ true
 unfolding tick conditionsOf
 tick-valid s e =
     let p = parts s e in
+    let code = watchdogCode (s .registers .control) in
+    let next = withTimer s (timerTick code (s .timer)) in
+    let k = conditionsOf next in
+    let c = next .timer .clock in
+    let falls = timer-tick-valid code (s .timer) (p .timer) in
+    let early = endsEarly (s .start .modification) in
     valid-of-parts (tick s)
     (record {
       registers = p .registers;
       start = p .start;
-      timer = timer-tick-valid _ (s .timer) (p .timer);
-      channels = channels-tick-valid _ _ (s .channels) (p .channels);
-      pulses = channels-tick-pulses _ _ _ (s .channels) (p .pulses);
+      timer =
+          waited-valid code (next .timer) _ falls
+          (wait-below (ruleAt k c) (delayOf s) 2048 (delay-low s) (next .timer .wait) (s .channels) (leb-true _ 2048 (wait-low code (next .timer) falls)));
+      channels = turns-keep (ruleAt k c) (delayOf s) (validChannel (k .standby)) (channel-tick-valid k c) (next .timer .wait) (s .channels) (p .channels);
+      pulses = turns-keep (ruleAt k c) (delayOf s) (validPulses early) (λ ch. tick-pulses early (overridden k ch) c ch) (next .timer .wait) (s .channels) (p .pulses);
     })
 
 pub iterate-valid : (n : ℕ) (s : State) → validOf s ≡ true → validOf (iterate n tick s) ≡ true

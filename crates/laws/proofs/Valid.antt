@@ -7,12 +7,12 @@ use lib.Dec.{leb, ltb, eqb}
 use lib.ListN.{getD, set}
 use native.Mathlib.Omega.{arith}
 use borrow.Author.Tests.{ltb-true, leb-true, eqb-true, le-leb}
-use Rattle.laws.proofs.Types.{Channel, Registers, StartValues, State}
+use Rattle.laws.proofs.Types.{Channel, Registers, StartValues, Timer, State}
 use Rattle.rules.specs.Basics.{every, flag}
 use Rattle.rules.specs.State.{blank}
 use Rattle.rules.specs.Registers.{standby, watchdogCode, monitorOnly, targetCount, controlKept, dynamicsKept, maskKept, optionsKept, configRefused}
 use Rattle.rules.specs.Time.{endsEarly}
-use Rattle.rules.specs.Valid.{validSettings, validResults, validMotion, validChannel, validPulses, validRegisters, validStart, validTimer, validOf}
+use Rattle.rules.specs.Valid.{validSettings, validResults, validMotion, validChannel, validPulses, validRegisters, validStart, validWatchdog, validTimer, validOf}
 use Rattle.rules.proofs.Tests.{and-left, and-right, and-both, by-test, every-at, every-set, every-weaker}
 
 pub record Parts (s : State) : Type 0 where
@@ -77,6 +77,20 @@ module _ (inStandby : Bool) (ch : Channel) where
   pub valid-of-channel-parts : ChannelParts inStandby ch → validChannel inStandby ch ≡ true
   unfolding validChannel
   valid-of-channel-parts p = and-both _ _ (and-both _ _ (p .settings) (p .results)) (p .motion)
+
+-- a valid timer: its watchdog, and its wait
+module _ (code : ℕ) (t : Timer) where
+  pub valid-watchdog : validTimer code t ≡ true → validWatchdog code (t .idle) (t .expired) ≡ true
+  unfolding validTimer
+  valid-watchdog e = and-left _ _ e
+
+  pub wait-low : validTimer code t ≡ true → leb (t .wait) 2048 ≡ true
+  unfolding validTimer
+  wait-low e = and-right (validWatchdog code (t .idle) (t .expired)) _ e
+
+  pub valid-timer-of : validWatchdog code (t .idle) (t .expired) ≡ true → leb (t .wait) 2048 ≡ true → validTimer code t ≡ true
+  unfolding validTimer
+  valid-timer-of w l = and-both _ _ w l
 
 pub start-target-lt : (v : StartValues) → validStart v ≡ true → v .target < 512
 unfolding validStart

@@ -83,7 +83,7 @@ module _ (s : State) (rest : List ℕ) (w : Within (limitsIn boxTable) (numbersI
   timer-back : timerFrom box ≡ s .timer
   unfolding timerFrom
   timer-back =
-      rw (whole 0, whole 9, bit-of-flag (s .timer .expired), bit-flag (s .registers .control / 2 % 128) (s .timer .status))
+      rw (whole 0, whole 9, whole 15, bit-of-flag (s .timer .expired), bit-flag (s .registers .control / 2 % 128) (s .timer .status))
 
   start-back : startFrom box ≡ s .start
   unfolding startFrom

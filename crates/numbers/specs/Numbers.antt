@@ -25,8 +25,9 @@ abbrev pub row : {A : Type 0} → ℕ → (A → ℕ) → Row A
 row most value = record { most = most; value = value }
 
 -- "clock pin control frequency faults mask2 mask1 options expired idle start_watchdog start_spinup start_target
--- start_frequency", and K7: "the modification after `start_frequency`"; the registers "as they read". "What the state can hold: clock 32
--- bits; pin, expired 0 or 1; faults 0 to 63; idle, start_target, count, ramp, spin, target, target_count 16 bits; the rest 8 bits"
+-- start_frequency", and K7: "the modification after `start_frequency`"; K8: "the shared wait after the modification (16 bits)"; the
+-- registers "as they read". "What the state can hold: clock 32 bits; pin, expired 0 or 1; faults 0 to 63; idle, start_target, count, ramp,
+-- spin, target, target_count 16 bits; the rest 8 bits"
 abbrev pub boxTable : List (Row State)
 boxTable =
     row 4294967295 (λ s. s .timer .clock)
@@ -44,6 +45,7 @@ boxTable =
     ∷ row 65535 (λ s. s .start .target)
     ∷ row 255 (λ s. s .start .frequency)
     ∷ row 255 (λ s. s .start .modification)
+    ∷ row 65535 (λ s. s .timer .wait)
     ∷ []
 
 -- "then for channels 1 to 6: config dynamics count ramp spin target target_count window queue", and K7: "after each channel's `queue` its
@@ -152,6 +154,7 @@ timerFrom v =
       idle = wordOf (number v 9);
       expired = bit 0 (number v 8);
       status = bit 0 (number v 2);
+      wait = wordOf (number v 15);
     }
 
 unfoldable pub startFrom : List ℕ → StartValues

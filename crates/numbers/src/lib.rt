@@ -22,7 +22,7 @@ use rules::State;
 use rules::Timer;
 
 // How many numbers the box has, each channel, and a state.
-pub const BOX_NUMBERS: usize = 15;
+pub const BOX_NUMBERS: usize = 16;
 
 pub const CHANNEL_NUMBERS: usize = 10;
 
@@ -45,6 +45,7 @@ const BOX_LIMITS: [u32; BOX_NUMBERS] = [
     65535,
     255,
     255,
+    65535,
 ];
 
 const CHANNEL_LIMITS: [u32; CHANNEL_NUMBERS] = [
@@ -136,6 +137,7 @@ fn box_numbers(state: State) -> [u32; BOX_NUMBERS]
         of_word(start.target),
         of_byte(start.frequency),
         of_byte(start.modification),
+        of_word(timer.wait),
     ]
 }
 
@@ -258,6 +260,7 @@ fn timer_of(values: &[u32]) -> Timer
     Timer {
         clock: long(values, 0),
         idle: word(values, 9),
+        wait: word(values, 15),
         expired: is_set(values, 8, 0),
         status: is_set(values, 2, 0),
     }

@@ -1,6 +1,6 @@
 // The fields of the registers, each decoded from the byte that its register reads.
 ghost use mathlib.Core.Path.{_≡_};
-ghost use Rattle.rules.specs.Registers.{standby, watchdogCode, spinCode, monitorOnly, tachometerEnabled, rangeCode, rateCode, asymmetric, failedFanOption, queueCode};
+ghost use Rattle.rules.specs.Registers.{standby, watchdogCode, spinCode, monitorOnly, tachometerEnabled, rangeCode, rateCode, asymmetric, delayCode, failedFanOption, queueCode};
 
 // 00h.
 pub fn standby(control: u8) -> bool
@@ -54,6 +54,12 @@ pub fn asymmetric(dynamics: u8) -> bool
 }
 
 // 14h.
+pub fn delay_code(options: u8) -> u8
+    ensures { λ r. ⌜ r ≡ delayCode options ⌝ }
+{
+    options / 32 % 8
+}
+
 pub fn failed_fan_option(options: u8) -> u8
     ensures { λ r. ⌜ r ≡ failedFanOption options ⌝ }
 {

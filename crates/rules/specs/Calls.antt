@@ -4,7 +4,7 @@ use mathlib.Core.Bool.{Bool, false, _&&_}
 use lib.Dec.{leb, eqb}
 use Rattle.rules.specs.Types.{State, Answer, ReadAnswer}
 use Rattle.rules.specs.Basics.{if_then_else_}
-use Rattle.rules.specs.State.{timer, withTimer}
+use Rattle.rules.specs.State.{withIdle, withTimer}
 
 -- "Refusal numbers", "Tested in the order of their numbers; given then and never otherwise", but for 8 of K6, which comes "after 3".
 -- 0 is accepted
@@ -63,6 +63,4 @@ ifChannel n s next = if isChannel n then answer accepted next else answer noSuch
 
 -- "Each accepted read or write sets the idle count to 0 and ends an expiry"
 abbrev pub accessed : State → State
-accessed s =
-    let t = s .timer in
-    withTimer s (timer (t .clock) 0 false (t .status))
+accessed s = withTimer s (withIdle (s .timer) 0 false)

@@ -4,7 +4,7 @@ use mathlib.Core.Bool.{Bool, not, _&&_}
 use lib.Dec.{eqb}
 use Rattle.rules.specs.Types.{Channel, State, StatusRegister, Faults2, Faults1, Count, OtherCount, Output, BoxRegister, Control, Frequency, Mask2, Mask1, Options, ChannelRegister, Config, Dynamics, Window, WordRegister, Target, TargetCount, Place, Absent, ReadOnly, Shared, Own, OwnWord, ReadAnswer}
 use Rattle.rules.specs.Basics.{if_then_else_, keep, flag}
-use Rattle.rules.specs.State.{channel, timer, withTimer}
+use Rattle.rules.specs.State.{channel, withStatus, withTimer}
 use Rattle.rules.specs.Registers.{targetCount}
 use Rattle.rules.specs.Words.{dutyWord, countWord, outputWord, wordByte}
 use Rattle.rules.specs.Map.{placeAt, isCarried}
@@ -53,9 +53,7 @@ placeByte s (OwnWord r i low) = wordByte low (targetWord (channel s i) r)
 
 -- "A read of 00h then clears the status bit"
 abbrev pub afterRead : State → ℕ → State
-afterRead s a =
-    let t = s .timer in
-    accessed (withTimer s (timer (t .clock) (t .idle) (t .expired) (t .status && not (eqb a 0x00))))
+afterRead s a = accessed (withTimer s (withStatus (s .timer) (s .timer .status && not (eqb a 0x00))))
 
 -- refusal 2, or the byte "from the state before it". "After a refused read the byte is 0"
 unfoldable pub readAt : State → ℕ → Place → ReadAnswer

@@ -37,7 +37,10 @@ asymmetric dynamics = bit 1 dynamics
 abbrev pub masked : ℕ → ℕ → Bool
 masked mask i = bit i mask
 
--- 14h: 3:2 failed-fan option, 1:0 queue code
+-- 14h: 7:5 start delay, 3:2 failed-fan option, 1:0 queue code
+abbrev pub delayCode : ℕ → ℕ
+delayCode options = bits 7 5 options
+
 abbrev pub failedFanOption : ℕ → ℕ
 failedFanOption options = bits 3 2 options
 

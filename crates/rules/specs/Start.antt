@@ -28,7 +28,7 @@ startChannel v =
     }
 
 -- the state as at start, at a clock and a pin level. 00h 0010 0XX0b with the pin-set code, 01h the pin-set byte,
--- 12h and 13h 0011 1111b, 14h 0100 0101b
+-- 12h and 13h 0011 1111b, 14h 0100 0101b. K8: the shared wait is "at start and reset 0"
 abbrev pub asAtStart : StartValues → ℕ → Bool → State
 asAtStart v clock pin =
     record {
@@ -36,7 +36,7 @@ asAtStart v clock pin =
       registers = registers (0x20 + bits 1 0 (v .watchdog) * 2) (v .frequency) 0x3F 0x3F 0x45;
       pin = pin;
       start = v;
-      timer = timer clock 0 false false;
+      timer = timer clock 0 false false 0;
     }
 
 -- refusal 7: "a state with every number 0 and every flag clear, pin low"
@@ -47,7 +47,7 @@ zeroState =
       registers = registers 0 0 0 0 0;
       pin = false;
       start = startValues 0 0 0 0 0;
-      timer = timer 0 0 false false;
+      timer = timer 0 0 false false 0;
     }
 
 -- "the pin is high"; K7: "Start takes the modification"

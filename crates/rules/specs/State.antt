@@ -90,13 +90,22 @@ abbrev pub registers : ℕ → ℕ → ℕ → ℕ → ℕ → Registers
 registers control frequency mask2 mask1 options =
     record { control = control; frequency = frequency; mask2 = mask2; mask1 = mask1; options = options }
 
--- the pin-set values, and the timer
+-- the pin-set values, and the timer; a timer with another idle count and expiry; with another status bit; with another wait
 abbrev pub startValues : ℕ → ℕ → ℕ → ℕ → ℕ → StartValues
 startValues watchdog spinup target frequency modification =
     record { watchdog = watchdog; spinup = spinup; target = target; frequency = frequency; modification = modification }
 
-abbrev pub timer : ℕ → ℕ → Bool → Bool → Timer
-timer clock idle expired status = record { clock = clock; idle = idle; expired = expired; status = status }
+abbrev pub timer : ℕ → ℕ → Bool → Bool → ℕ → Timer
+timer clock idle expired status wait = record { clock = clock; idle = idle; expired = expired; status = status; wait = wait }
+
+abbrev pub withIdle : Timer → ℕ → Bool → Timer
+withIdle t idle expired = timer (t .clock) idle expired (t .status) (t .wait)
+
+abbrev pub withStatus : Timer → Bool → Timer
+withStatus t status = timer (t .clock) (t .idle) (t .expired) status (t .wait)
+
+abbrev pub withWait : Timer → ℕ → Timer
+withWait t wait = timer (t .clock) (t .idle) (t .expired) (t .status) wait
 
 -- a state with other channels; with other registers; with another pin level; with another timer
 abbrev pub withChannels : State → List Channel → State

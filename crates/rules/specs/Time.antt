@@ -18,6 +18,10 @@ watchdogLimit code = getD (0 ∷ 2560 ∷ 5120 ∷ 15360 ∷ []) code 0
 unfoldable pub spinTicks : ℕ → ℕ
 spinTicks code = getD (0 ∷ 256 ∷ 512 ∷ 1024 ∷ []) code 0
 
+-- K8, of 14h's start delay: "codes 0 to 5 are 0, 128, 256, 512, 1,024 and 2,048 ticks, with 6 and 7 as 5"
+unfoldable pub startDelay : ℕ → ℕ
+startDelay code = getD (0 ∷ 128 ∷ 256 ∷ 512 ∷ 1024 ∷ 2048 ∷ 2048 ∷ 2048 ∷ []) code 0
+
 -- K7: "Boxes of modification A keep 01's whole time; boxes of modification B end early", "A is number 0, B is 1"
 abbrev pub endsEarly : ℕ → Bool
 endsEarly modification = eqb modification 1

@@ -49,11 +49,15 @@ unfoldable pub validStart : StartValues → Bool
 validStart v = ltb (v .watchdog) 4 && ltb (v .spinup) 4 && ltb (v .target) 512 && ltb (v .modification) 2
 
 -- "watchdog off means idle 0 and not expired, and otherwise idle is below the limit and not expired, or at it and expired"
+abbrev pub validWatchdog : ℕ → ℕ → Bool → Bool
+validWatchdog code idle expired =
+    if eqb code 0 then eqb idle 0 && not expired
+    else if expired then eqb idle (watchdogLimit code)
+    else ltb idle (watchdogLimit code)
+
+-- K8: "wait at most 2,048"
 unfoldable pub validTimer : ℕ → Timer → Bool
-validTimer code t =
-    if eqb code 0 then eqb (t .idle) 0 && not (t .expired)
-    else if t .expired then eqb (t .idle) (watchdogLimit code)
-    else ltb (t .idle) (watchdogLimit code)
+validTimer code t = validWatchdog code (t .idle) (t .expired) && leb (t .wait) 2048
 
 unfoldable pub validOf : State → Bool
 validOf s =

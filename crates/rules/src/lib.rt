@@ -46,10 +46,12 @@ pub struct StartValues {
     pub modification: u8,
 }
 
-// What a tick moves besides the channels: the clock and the watchdog.
+// What a tick moves besides the channels: the clock, the watchdog, and the wait that the channels share.
 pub struct Timer {
     pub clock: u32,
     pub idle: u16,
+    // The ticks until a channel may leave ramp value 0, at most 2,048.
+    pub wait: u16,
     pub expired: bool,
     // Bit 0 of 00h.
     pub status: bool,

@@ -49,6 +49,7 @@ fn zero_state() -> State
         timer: Timer {
             clock: 0,
             idle: 0,
+            wait: 0,
             expired: false,
             status: false,
         },

@@ -70,6 +70,6 @@ run-example = (refl, omega arith, (refl, refl, refl, refl), refl)
 
 -- a buffer short by one; a state with the watchdog off and an idle count
 pub nothing-done-examples : (length (sevens 9) < length fourRecords) × (runOf zeroState fourRecords 0 (sevens 9) .answer .refusal ≡ answersTooShort)
-    × (let s = withTimer zeroState (timer 0 1 false false) in (validOf s ≡ false) × (runOf s [] 0 [] .answer .refusal ≡ stateNotValid))
+    × (let s = withTimer zeroState (timer 0 1 false false 0) in (validOf s ≡ false) × (runOf s [] 0 [] .answer .refusal ≡ stateNotValid))
 unfolding runOf validOf validRegisters validStart validTimer validChannel validPulses watchdogLimit
 nothing-done-examples = (omega arith, refl, (refl, refl))

@@ -48,7 +48,7 @@ fn approach(x: u16, goal: u16, steps: u64) -> u16
 // A channel whose spin-up neither runs nor is due. The clock does not wrap here: a period divides its range, so the
 // multiples are the same, and 64 bits hold the sum.
 fn ramped(channel: Channel, clock: u64, ticks: u32) -> Channel
-    requires { ⌜ (channel .spin ≡ 0) × (spinUpDue channel ≡ false) × (clock < 2 ^ 34) ⌝ }
+    requires { ⌜ (channel .spin ≡ 0) × (spinUpDue channel ≡ false) × (clock < 2 ^ 35) ⌝ }
     ensures { λ r. ⌜ r ≡ channelTicks false ticks clock channel ⌝ }
 {
     let mut next = channel;
@@ -68,7 +68,7 @@ fn ramped(channel: Channel, clock: u64, ticks: u32) -> Channel
 
 // A channel whose spin-up does not run, and may be due: then one tick starts it.
 fn not_spinning(channel: Channel, clock: u64, ticks: u32) -> Channel
-    requires { ⌜ (channel .spin ≡ 0) × (clock < 2 ^ 33) ⌝ }
+    requires { ⌜ (channel .spin ≡ 0) × (clock < 2 ^ 34) ⌝ }
     ensures { λ r. ⌜ r ≡ channelTicks false ticks clock channel ⌝ }
 {
     if ticks == 0 {
@@ -90,8 +90,8 @@ fn not_spinning(channel: Channel, clock: u64, ticks: u32) -> Channel
 }
 
 // Any channel, under an override or not. With no spin-up time left no pulses are counted, so clearing both is right where none runs too.
-pub fn channel_after(held: bool, channel: Channel, clock: u32, ticks: u32) -> Channel
-    requires { ⌜ channel .pulses ≤ channel .spin ⌝ }
+pub fn channel_after(held: bool, channel: Channel, clock: u64, ticks: u32) -> Channel
+    requires { ⌜ (channel .pulses ≤ channel .spin) × (clock < 2 ^ 33) ⌝ }
     ensures { λ r. ⌜ r ≡ channelTicks held ticks clock channel ⌝ }
 {
     if held {
@@ -108,5 +108,5 @@ pub fn channel_after(held: bool, channel: Channel, clock: u32, ticks: u32) -> Ch
     }
     next.spin = 0;
     next.pulses = 0;
-    not_spinning(next, clock as u64 + spin as u64, ticks - spin as u32)
+    not_spinning(next, clock + spin as u64, ticks - spin as u32)
 }

@@ -1,5 +1,6 @@
 //! The paper's trials ("Trials on both sides") and the places where its sentences meet.
 
+mod delays;
 mod pulses;
 mod results;
 mod soundness;
@@ -7,7 +8,8 @@ mod soundness;
 use super::*;
 use crate::random::Random;
 use crate::states::{
-    frozen_state, sound_state, spinning_state, state_before_expiry, unusual_sound_state, FREEZES,
+    frozen_state, sound_state, spinning_state, state_before_expiry, unusual_sound_state,
+    waiting_state, FREEZES,
 };
 
 /// A box that runs with the watchdog off, no override and no spin-up code; its channels rest at 0.
@@ -21,7 +23,8 @@ fn started(values: PinSet) -> State {
     state
 }
 
-/// The quiet box with channel 1 on its way at the given clock.
+/// The quiet box with channel 1 on its way at the given clock. K8: "The ramp trials begin at wait 0,
+/// with every other channel's ramp value and target duty 0."
 fn ramping(clock: u32, ramp: u16, target: u16, dynamics: u8) -> State {
     let mut state = quiet();
     state.clock = clock;
@@ -286,11 +289,12 @@ fn each_override_freezes_ramp_and_spin_up() {
 #[test]
 fn single_ticks_and_a_jump_agree() {
     let mut random = Random::new(11);
-    for turn in 0..120 {
-        let state = match turn % 4 {
+    for turn in 0..150 {
+        let state = match turn % 5 {
             0 => sound_state(&mut random),
             1 => unusual_sound_state(&mut random),
             2 => spinning_state(&mut random),
+            3 => waiting_state(&mut random),
             _ => state_before_expiry(&mut random),
         };
         let count = random.between(0, 30_000);
@@ -653,6 +657,7 @@ fn reset_keeps_clock_and_pin_alone() {
     state.channels[2].queue = 5;
     state.control |= STATUS;
     state = pin(&after(&state, 12_345), false).1;
+    state.wait = 2048;
     let reset = written(&state, 0x00, 0xFF);
     assert_eq!(
         reset,

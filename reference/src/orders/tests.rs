@@ -180,7 +180,8 @@ fn two_pulses_in_a_string_end_a_spin_up() {
             modification,
             ..PinSet::default()
         };
-        model::start(&values).1
+        // With no start delay all fans start with the first tick.
+        model::write(&model::start(&values).1, 0x14, 0x05).1
     };
     let spin_ups = |run: &Run| {
         let channels = &run.state.channels[..3];

@@ -183,7 +183,7 @@ impl Scenario {
 }
 
 /// Both tables with one byte in every row.
-fn level_tables(byte: u8) -> Tables {
+pub(super) fn level_tables(byte: u8) -> Tables {
     Tables {
         normal: vec![byte; ROWS],
         quiet: vec![byte; ROWS],
@@ -201,7 +201,8 @@ impl Scenario {
         self.say(&call.words());
         let (galley, controller) = (self.galley, self.state);
         let (refusal, answer) = call.make(&mut self.galley, &mut self.state);
-        self.seen.note_galley(&call, refusal, &galley, &controller);
+        self.seen
+            .note_galley(&call, refusal, &galley, &controller, &self.state);
         self.expect(&answer);
     }
 
@@ -244,7 +245,7 @@ impl Scenario {
         }
     }
 
-    fn sample_and_dump(&mut self, temperature: i32, tables: Tables) {
+    pub(super) fn sample_and_dump(&mut self, temperature: i32, tables: Tables) {
         self.make_galley(GalleyCall::Sample {
             temperature,
             tables,

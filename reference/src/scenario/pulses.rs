@@ -254,7 +254,7 @@ impl Scenario {
 
 // Ways into a spin-up and out of it, and pulses
 impl Scenario {
-    /// A box whose fans all start with the first tick; a pulse before it is not counted.
+    /// A box whose fans mostly all start with the first tick; a pulse before it is not counted.
     fn start_with_spin_ups(&mut self) {
         let start = Call::Start(PinSet {
             watchdog: self.random.weighted(&[(3, 0), (1, 1), (1, 3)]),
@@ -264,6 +264,9 @@ impl Scenario {
             modification: self.random.weighted(&[(1, 0), (2, 1)]),
         });
         self.make(start);
+        if self.random.chance(3, 4) {
+            self.clear_the_wait();
+        }
         if self.random.chance(1, 3) {
             self.pulse_on_some_channel();
         }
@@ -316,7 +319,7 @@ impl Scenario {
     }
 
     /// Pulses ask for no tachometer enabled: it is set or not.
-    fn set_spin_up_code(&mut self, index: u32) {
+    pub(super) fn set_spin_up_code(&mut self, index: u32) {
         let code: u8 = self.random.weighted(&[(2, 1), (1, 2), (1, 3)]);
         let others = self
             .random
@@ -325,7 +328,7 @@ impl Scenario {
     }
 
     /// A target above 0.
-    fn set_some_duty(&mut self, index: u32) {
+    pub(super) fn set_some_duty(&mut self, index: u32) {
         let any = self.random.between(1, FULL_DUTY.into()) as u16;
         let duty = self.random.pick(&[1, 200, FULL_DUTY, any, any]);
         self.set_duty(index, duty);

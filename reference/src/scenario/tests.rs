@@ -2,7 +2,7 @@
 
 use super::*;
 use crate::galley::ROWS;
-use crate::seen::SeenPulses;
+use crate::seen::{SeenDelays, SeenPulses};
 
 /// The lines of a scenario that answer.
 fn answered(input: &str) -> usize {
@@ -36,7 +36,7 @@ fn a_scenario_of_some_length_meets_every_part_of_the_paper() {
     assert!(seen.answers.iter().all(|&times| times >= 30));
     assert!(seen.results.iter().all(|&times| times >= 100));
     assert!(seen.lines.iter().all(|&times| times >= 200));
-    assert!(seen.near_full.iter().flatten().all(|&times| times >= 20));
+    assert!(seen.near_full.iter().flatten().all(|&times| times >= 15));
     assert!(seen.faults_raised >= 150 && seen.faults_cleared >= 100);
     assert!(seen.faults_at_full_target >= 30);
     assert!(seen.fan_fail_asserted >= 80);
@@ -52,9 +52,9 @@ fn a_scenario_of_some_length_meets_every_part_of_the_paper() {
 fn a_scenario_of_some_length_runs_strings_of_every_kind() {
     let seen = scenario(2, 30_000).seen;
     let runs = &seen.runs;
-    assert!(6 * runs.calls() >= seen.calls);
+    assert!(7 * runs.calls() >= seen.calls);
     for refusal in [0, 1, 2, 3, 4, 5, 8, 10, 11, 12, 13, 15] {
-        assert!(runs.answers[refusal] >= 80, "{refusal}");
+        assert!(runs.answers[refusal] >= 65, "{refusal}");
     }
     for refusal in [2, 3, 8, 10, 13] {
         assert!(runs.stopped_at_words[&refusal] >= 15, "{refusal}");
@@ -70,13 +70,13 @@ fn a_scenario_of_some_length_runs_strings_of_every_kind() {
 fn a_scenario_of_some_length_writes_words_of_every_kind() {
     let seen = scenario(4, 30_000).seen;
     let words = &seen.words;
-    assert!(15 * words.lines >= seen.calls);
+    assert!(16 * words.lines >= seen.calls);
     assert!(words.duties >= 1500 && words.counts >= 500);
     assert_eq!(words.targets.len(), 2 * CHANNELS);
     for refusal in [1, 2, 3, 8] {
         assert!(words.refused[&refusal] >= 40, "{refusal}");
     }
-    assert!(words.bytes_refused >= 80 && words.bits_dropped >= 2500);
+    assert!(words.bytes_refused >= 50 && words.bits_dropped >= 2500);
     assert!(words.edges.iter().all(|&times| times >= 50));
     assert!(words.faults_cleared >= 200 && words.queues_cleared >= 400);
     assert!(words.faults_kept >= 80);
@@ -126,11 +126,55 @@ fn a_scenario_of_some_length_lets_fans_turn_in_every_way() {
     }
 }
 
+/// Whether every way in which a fan can start or wait, and all that the wait can meet, was met so
+/// often.
+fn every_delay_was_met(delays: &SeenDelays, times: usize) -> bool {
+    let (departures, held, wait) = (&delays.departures, &delays.held, &delays.wait);
+    let ways = [
+        &delays.loads[..],
+        &departures.kinds,
+        &departures.codes,
+        &departures.ends,
+        &held.kinds,
+        &held.together,
+        &wait.fell_under,
+        &wait.fell_in_expiry,
+        &wait.codes_changed,
+        &wait.kept,
+        &[departures.at_once, departures.overtaking, departures.ahead],
+        &[departures.again, departures.together, held.without_delay],
+        &[delays.samples, wait.resets, wait.turned],
+    ];
+    ways.iter().copied().flatten().all(|&met| met >= times)
+}
+
+#[test]
+fn a_scenario_of_some_length_starts_one_fan_at_a_time_in_every_way() {
+    for seed in 8..=10 {
+        let delays = scenario(seed, 30_000).seen.delays;
+        let (departures, held, wait) = (&delays.departures, &delays.held, &delays.wait);
+        assert!(every_delay_was_met(&delays, 5));
+        assert!(delays.loads.iter().all(|&times| times >= 12));
+        assert!(departures.kinds.iter().all(|&times| times >= 200));
+        assert!(departures.codes.iter().all(|&times| times >= 80));
+        assert!(departures.ends.iter().all(|&times| times >= 80));
+        assert!(departures.at_once >= 800 && departures.again >= 80);
+        assert!(departures.overtaking >= 300 && departures.ahead >= 600);
+        assert!(departures.together >= 150 && held.without_delay >= 60);
+        assert!(held.kinds.iter().all(|&times| times >= 200));
+        assert!(held.together.iter().all(|&times| times >= 20));
+        assert!(wait.codes_changed.iter().all(|&times| times >= 25));
+        assert!(wait.kept.iter().all(|&times| times >= 20));
+        assert!(delays.samples >= 20 && wait.resets >= 20 && wait.turned >= 15);
+    }
+}
+
 /// The scenario that `rt ci` runs the console on.
 #[test]
-fn the_scenario_that_is_kept_meets_every_pulse_and_refusal() {
+fn the_scenario_that_is_kept_meets_every_pulse_delay_and_refusal() {
     let seen = scenario(1, 5000).seen;
     assert!(every_pulse_was_met(&seen.pulses, 1));
+    assert!(every_delay_was_met(&seen.delays, 1));
     assert!(seen.answers.iter().all(|&times| times > 0));
     for refusal in [0, 1, 2, 3, 4, 5, 8, 10, 11, 12, 13, 15] {
         assert!(seen.runs.answers[refusal] > 0, "{refusal}");
@@ -141,7 +185,7 @@ fn the_scenario_that_is_kept_meets_every_pulse_and_refusal() {
 fn a_scenario_of_some_length_meets_every_part_of_the_galley() {
     let seen = scenario(3, 30_000).seen;
     let galley = &seen.galley;
-    assert!(6 * galley.calls >= seen.calls);
+    assert!(7 * galley.calls >= seen.calls);
     for (name, refusals) in [
         ("gfresh", &[0, 22][..]),
         ("gsample", &[0, 1, 20, 22]),

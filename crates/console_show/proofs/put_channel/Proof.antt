@@ -7,6 +7,9 @@ use Rattle.console_show.proofs.put_channel.Tie as tie
 output-duty-requires : tie.Need-output-duty-requires
 output-duty-requires c κs = tt
 
+held-back-requires : tie.Need-held-back-requires
+held-back-requires c κs = tt
+
 put-duties-requires : tie.Need-put-duties-requires
 put-duties-requires c κs = tt
 
@@ -33,6 +36,7 @@ put-channel-spec =
     tie.close
     (tie.spec
     output-duty-requires
+    held-back-requires
     put-duties-requires
     put-speed-requires
     put-queue-requires

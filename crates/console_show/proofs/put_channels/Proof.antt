@@ -8,10 +8,10 @@ use Rattle.console_show.proofs.put_channels.Statement.{statement}
 use Rattle.console_show.proofs.put_channels.Tie as tie
 
 abbrev Inv-loop : tie.InvT-loop
-Inv-loop out₀ at conditions channels next₀ i₀ out next i = Frame (190 * i) next₀ out₀ out next × (i ≤ 6)
+Inv-loop out₀ at conditions wait channels next₀ i₀ out next i = Frame (190 * i) next₀ out₀ out next × (i ≤ 6)
 
 abbrev μ-loop : tie.MeasureT-loop
-μ-loop out₀ at conditions channels next₀ i₀ out next i = 6 - i
+μ-loop out₀ at conditions wait channels next₀ i₀ out next i = 6 - i
 
 conditions-requires : tie.Need-conditions-requires Inv-loop μ-loop
 conditions-requires c κs = tt

@@ -1,6 +1,6 @@
 -- `put_show` meets its contract. Assumes nothing.
 use native.Mathlib.Omega.{arith}
-use Rattle.console_text.proofs.Frames.{frames-4}
+use Rattle.console_text.proofs.Frames.{frame-then, frames-4}
 use Rattle.console_show.proofs.put_show.Statement.{statement}
 use Rattle.console_show.proofs.put_show.Tie as tie
 
@@ -16,14 +16,24 @@ put-pins-requires c κs = tt
 put-modification-requires : tie.Need-put-modification-requires
 put-modification-requires c κs = tt
 
+delay-code-requires : tie.Need-delay-code-requires
+delay-code-requires c κs = tt
+
+start-delay-requires : tie.Need-start-delay-requires
+start-delay-requires c κs = tt
+
+put-starts-requires : tie.Need-put-starts-requires
+put-starts-requires c κs = tt
+
 put-channels-requires : tie.Need-put-channels-requires
 put-channels-requires c κs = tt
 
 returns : tie.Need-returns
 returns c =
-    let third = c .before .before .before .before .before .before in
+    let fourth = c .before .before .before .before .before .before in
+    let third = fourth .before .before .before .before .before .before in
     let second = third .before .before .before .before in
-    frames-4 (second .before .before .before .before .put-timer .ensures) (second .put-pins .ensures) (third .put-modification .ensures) (c .before .before .put-channels .ensures) (omega arith)
+    frames-4 (second .before .before .before .before .put-timer .ensures) (second .put-pins .ensures) (third .put-modification .ensures) (frame-then (fourth .put-starts .ensures) (c .before .before .put-channels .ensures)) (omega arith)
 
 same-length : tie.Need-same-length
 same-length c = returns c .long
@@ -36,6 +46,9 @@ put-show-spec =
     put-timer-requires
     put-pins-requires
     put-modification-requires
+    delay-code-requires
+    start-delay-requires
+    put-starts-requires
     put-channels-requires
     same-length
     returns)

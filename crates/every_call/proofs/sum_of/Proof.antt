@@ -1,14 +1,15 @@
 -- `sum_of` ends: each turn brings the index nearer to how many numbers there are. Assumes nothing.
 use Prim.Native.Nat.{_-_, _≤_}
 use borrow.Author.Needs.{needs}
+use Rattle.numbers.specs.Numbers.{numberCount}
 use Rattle.every_call.proofs.sum_of.Statement.{statement}
 use Rattle.every_call.proofs.sum_of.Tie as tie
 
 abbrev Inv-loop : tie.InvT-loop
-Inv-loop again sum₀ i₀ sum i = i ≤ 75
+Inv-loop again sum₀ i₀ sum i = i ≤ numberCount
 
 abbrev μ-loop : tie.MeasureT-loop
-μ-loop again sum₀ i₀ sum i = 75 - i
+μ-loop again sum₀ i₀ sum i = numberCount - i
 
 numbers-of-requires : tie.Need-numbers-of-requires Inv-loop μ-loop
 numbers-of-requires c κs = tt

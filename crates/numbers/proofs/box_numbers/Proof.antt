@@ -49,6 +49,9 @@ of-byte-requires-7 c κs = tt
 of-byte-requires-8 : tie.Need-of-byte-requires-8
 of-byte-requires-8 c κs = tt
 
+of-word-requires-3 : tie.Need-of-word-requires-3
+of-word-requires-3 c κs = tt
+
 returns : tie.Need-returns
 unfolding Within
 returns c = record { each = cc; within = omega arith }
@@ -72,4 +75,5 @@ box-numbers-spec =
     of-word-requires-2
     of-byte-requires-7
     of-byte-requires-8
+    of-word-requires-3
     returns)

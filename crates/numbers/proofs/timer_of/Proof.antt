@@ -10,6 +10,9 @@ long-requires c κs = tt
 word-requires : tie.Need-word-requires
 word-requires c κs = tt
 
+word-requires-2 : tie.Need-word-requires-2
+word-requires-2 c κs = tt
+
 is-set-requires : tie.Need-is-set-requires
 is-set-requires c κs = search needs
 
@@ -22,4 +25,4 @@ returns c = cc
 
 pub timer-of-spec : {M : Type 1} → statement M
 timer-of-spec =
-    tie.close (tie.spec long-requires word-requires is-set-requires is-set-requires-2 returns)
+    tie.close (tie.spec long-requires word-requires word-requires-2 is-set-requires is-set-requires-2 returns)

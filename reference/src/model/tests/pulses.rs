@@ -6,8 +6,8 @@ use super::*;
 const A: u32 = 0;
 const B: u32 = 1;
 
-/// A box whose fans all start with the first tick: spin-up code 1 and target 200, with rate code 3
-/// as at power-on.
+/// A box whose fans are all to start: spin-up code 1 and target 200, with rate code 3 and start
+/// delay code 2 as at power-on. Channel 1 starts with the first tick.
 fn starting(modification: u32) -> State {
     started(PinSet {
         spin_up: 1,
@@ -17,9 +17,14 @@ fn starting(modification: u32) -> State {
     })
 }
 
-/// The same one after its first tick: every channel has 256 ticks of spin-up left.
+/// The same one with start delay code 0, after its first tick: every channel has 256 ticks of
+/// spin-up left.
 fn spinning(modification: u32) -> State {
-    after(&starting(modification), 1)
+    let state = State {
+        options: 0x05,
+        ..starting(modification)
+    };
+    after(&state, 1)
 }
 
 fn pulsed(state: &State, channel: u32) -> State {

@@ -42,6 +42,9 @@ fn fields_of_the_box_in_range() {
     for modification in [2, 3, 128, 254, 255] {
         spoils(|state| state.modification = modification);
     }
+    for wait in [2049, 4096, 65_535] {
+        spoils(|state| state.wait = wait);
+    }
     keeps_sound(|state| {
         state.control = 0x29;
         state.frequency = 0xFF;
@@ -52,8 +55,16 @@ fn fields_of_the_box_in_range() {
         state.start_target = 511;
         state.start_frequency = 0xFF;
         state.modification = 1;
+        state.wait = 2048;
         state.faults = 0x3F;
     });
+    // Under any delay code: a running wait is that of an earlier one.
+    for wait in [0, 1, 2047, 2048] {
+        keeps_sound(|state| {
+            state.options = 0x04;
+            state.wait = wait;
+        });
+    }
 }
 
 #[test]
@@ -174,10 +185,10 @@ fn a_count_of_pulses_stands_on_its_own_channel() {
 }
 
 fn random_sound_state(random: &mut Random) -> State {
-    if random.chance(1, 2) {
-        sound_state(random)
-    } else {
-        spinning_state(random)
+    match random.below(3) {
+        0 => sound_state(random),
+        1 => spinning_state(random),
+        _ => waiting_state(random),
     }
 }
 

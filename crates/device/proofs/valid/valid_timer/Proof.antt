@@ -1,25 +1,14 @@
 -- `valid::valid_timer` meets its contract. Assumes nothing.
 use Rattle.rules.specs.Valid.{validTimer}
-use borrow.Author.Tests.{eq-eqb, ne-eqb}
 use Rattle.device.proofs.valid.valid_timer.Statement.{statement}
 use Rattle.device.proofs.valid.valid_timer.Tie as tie
 
+valid-watchdog-requires : tie.Need-valid-watchdog-requires
+valid-watchdog-requires c κs = tt
+
 returns : tie.Need-returns
 unfolding validTimer
-returns c = simp (eq-eqb _ 0 (c .before .before .if1 .taken))
-
-watchdog-limit-requires : tie.Need-watchdog-limit-requires
-watchdog-limit-requires c κs = tt
-
-returns-2 : tie.Need-returns-2
-unfolding validTimer
-returns-2 c =
-    simp (ne-eqb _ 0 (c .before .before .before .if1 .left), c .before .if2 .taken, c .before .before .watchdog-limit .ensures)
-
-returns-3 : tie.Need-returns-3
-unfolding validTimer
-returns-3 c =
-    simp (ne-eqb _ 0 (c .before .before .before .if1 .left), c .before .if2 .left, c .before .before .watchdog-limit .ensures)
+returns c = simp (c .before .valid-watchdog .ensures)
 
 pub valid-timer-spec : {M : Type 1} → statement M
-valid-timer-spec = tie.close (tie.spec returns watchdog-limit-requires returns-2 returns-3)
+valid-timer-spec = tie.close (tie.spec valid-watchdog-requires returns)

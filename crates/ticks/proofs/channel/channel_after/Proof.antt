@@ -30,7 +30,7 @@ returns-3 : tie.Need-returns-3
 returns-3 c =
     let start = c .before .before .before in
     let a = start .args in
-    sym (ap (λ b. channelTicks b (a .ticks) (a .clock) (a .channel)) (c .before .before .if1 .left) ∙ ticks-within (a .ticks) (a .clock) (a .channel) (start .pre) (c .if3 .taken))
+    sym (ap (λ b. channelTicks b (a .ticks) (a .clock) (a .channel)) (c .before .before .if1 .left) ∙ ticks-within (a .ticks) (a .clock) (a .channel) (start .pre .0) (c .if3 .taken))
 
 cast-not-spinning : tie.Need-cast-not-spinning
 cast-not-spinning c = search needs
@@ -52,7 +52,7 @@ returns-4 c =
     let start = c .before .before .before .before in
     let a = start .args in
     c .not-spinning .ensures
-    ∙ sym (ap (λ b. channelTicks b (a .ticks) (a .clock) (a .channel)) (c .before .before .before .if1 .left) ∙ ticks-past (a .ticks) (a .clock) (a .channel) (start .pre) (c .before .if3 .left))
+    ∙ sym (ap (λ b. channelTicks b (a .ticks) (a .clock) (a .channel)) (c .before .before .before .if1 .left) ∙ ticks-past (a .ticks) (a .clock) (a .channel) (start .pre .0) (c .before .if3 .left))
 
 pub channel-after-spec : {M : Type 1} → statement M
 channel-after-spec =
