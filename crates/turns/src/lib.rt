@@ -1,7 +1,7 @@
 // Which of the channels that wait to leave ramp value 0 do so in a span of ticks, and when. Of a channel only numbers are asked for, so
 // that who may leave is decided apart from what a channel does then. specs/ says it tick by tick; here no loop counts ticks.
 ghost use mathlib.Core.Path.{_≡_};
-ghost use Prim.Native.Nat.{_+_, _-_, _^_, _≤_, _<_, max, min};
+ghost use Prim.Native.Nat.{_-_, _^_, _≤_, _<_, max, min};
 ghost use lib.Dec.{ltb};
 ghost use Rattle.rules.specs.Basics.{if_then_else_};
 ghost use Rattle.turns.specs.Turns.{mayLeave, turn, waitThen, ticked, turnsAfter};
