@@ -5,10 +5,9 @@ pub mod galley;
 
 use crate::model::{
     carried, deciding_line, period, sound, spin_up_ticks, tick, watchdog_limit, Channel, Line,
-    State, CHANNELS, FULL_COUNT, LONGEST_WAIT, MONITOR_ONLY, RPM_MODE,
+    State, CHANNELS, LONGEST_WAIT, MONITOR_ONLY,
 };
 use crate::random::Random;
-use crate::states::speeds::{count_beside_twice, edges_of_window, random_speed, random_window};
 use crate::states::{random_duty, random_target_count};
 
 pub fn address(random: &mut Random) -> u32 {
@@ -85,7 +84,7 @@ pub fn address_without_words(random: &mut Random) -> u32 {
     random.weighted(&[
         (8, target + 1),
         (8, byte_register),
-        (8, read_only),
+        (6, read_only),
         (3, neighbour),
         (3, far),
         (1, no_register),
@@ -119,7 +118,6 @@ pub fn byte_for(random: &mut Random, address: u32) -> u8 {
         0x02..=0x07 => configuration_byte(random),
         0x13 => random.pick(&[0x00, 0x00, 0x00, 0xC0, 0x01, 0x20, 0x3F, any]),
         0x14 => any & 0xF3 | random.pick(&[0x00, 0x04, 0x04, 0x04, 0x08, 0x0C]),
-        0x60..=0x65 => random_window(random),
         _ => random.weighted(&[(2, any), (1, edge)]),
     }
 }
@@ -167,13 +165,11 @@ fn control_byte(random: &mut Random) -> u8 {
     ])
 }
 
-/// Spin-up codes with the tachometer mostly on, every third in RPM mode; monitor only and refused
-/// bits now and then.
+/// Spin-up codes with the tachometer mostly on; monitor only and refused bits now and then.
 fn configuration_byte(random: &mut Random) -> u8 {
     let code = random.below(4) as u8;
     let bits = random.pick(&[0x00, 0x08, 0x08, 0x0A]);
-    let mode = random.pick(&[0x00, 0x00, RPM_MODE]);
-    let accepted = mode | code << 5 | bits;
+    let accepted = code << 5 | bits;
     let refused = refused_configuration(random);
     random.weighted(&[
         (6, accepted),
@@ -183,7 +179,7 @@ fn configuration_byte(random: &mut Random) -> u8 {
 }
 
 pub fn refused_configuration(random: &mut Random) -> u8 {
-    random.pick(&[0x04, 0x01, 0x05, 0x84, 0x81, 0x85, 0xFF])
+    random.pick(&[0x80, 0x04, 0x01, 0x85, 0xFF])
 }
 
 /// A value for `start`: in range, or wrong in such a way that its low half may be in range.
@@ -237,12 +233,8 @@ pub fn span_between_pulses(random: &mut Random, channel: &Channel) -> u32 {
     ])
 }
 
-/// A tachometer count, mostly at or beside the channel's target count, or at or beside 2,047. In RPM
-/// mode it mostly lies where the mode draws its lines.
+/// A tachometer count, mostly at or beside the channel's target count, or at or beside 2,047.
 pub fn count_about(random: &mut Random, channel: &Channel) -> u32 {
-    if channel.rpm_mode() && random.chance(3, 4) {
-        return count_to_hold(random, channel);
-    }
     let target = u32::from(channel.target_count);
     let any = random.any();
     random.weighted(&[
@@ -250,7 +242,7 @@ pub fn count_about(random: &mut Random, channel: &Channel) -> u32 {
         (6, target),
         (12, target + 1),
         (1, 0),
-        (6, 2045),
+        (4, 2045),
         (5, 2046),
         (6, 2047),
         (3, 2048),
@@ -259,44 +251,6 @@ pub fn count_about(random: &mut Random, channel: &Channel) -> u32 {
         (1, u32::MAX),
         (1, any % 2048),
         (1, any),
-    ])
-}
-
-/// For a channel in RPM mode: beside an edge of its window, beside twice its target count, or about
-/// 2,047.
-pub fn count_to_hold(random: &mut Random, channel: &Channel) -> u32 {
-    let edge = random.pick(&edges_of_window(channel));
-    let twice = count_beside_twice(random, channel);
-    let target = channel.target_count.into();
-    random.weighted(&[
-        (6, edge),
-        (5, twice),
-        (1, target),
-        (1, 2046),
-        (3, 2047),
-        (1, 5000),
-    ])
-}
-
-/// A window with the stored count at its edge or one beyond, if there is one; else any.
-pub fn window_for_count(random: &mut Random, channel: &Channel) -> u8 {
-    let distance = channel.count.abs_diff(channel.target_count);
-    let narrower = distance.saturating_sub(random.below(2) as u16);
-    u8::try_from(narrower).unwrap_or_else(|_| random_window(random))
-}
-
-/// A target count with the stored count at an edge of the window or one beyond; or any.
-pub fn target_count_for_count(random: &mut Random, channel: &Channel) -> u16 {
-    let window = u16::from(channel.window);
-    let any = random_speed(random);
-    let lower = channel.count.saturating_sub(window);
-    let higher = (channel.count + window).min(FULL_COUNT);
-    random.pick(&[
-        lower,
-        lower.saturating_sub(1),
-        higher,
-        (higher + 1).min(FULL_COUNT),
-        any,
     ])
 }
 
@@ -353,7 +307,7 @@ pub fn span_of_ramp(random: &mut Random, channel: &Channel) -> u32 {
         return random.below(3);
     }
     let step = period(channel);
-    let distance = u32::from(channel.ramp.abs_diff(channel.wanted_duty()));
+    let distance = u32::from(channel.ramp.abs_diff(channel.target));
     match random.below(8) {
         0 => random.below(4),
         1 => near(random, step),
@@ -388,12 +342,12 @@ pub fn span_to_expiry(random: &mut Random, state: &State) -> u32 {
     }
 }
 
-/// How many fans stand at ramp value 0, want more and are under no override.
+/// How many fans stand at ramp value 0, have a target and are under no override.
 pub fn waiting_fans(state: &State) -> usize {
     let waits = |index: &usize| {
         let channel = &state.channels[*index];
         let free = deciding_line(state, *index) == Line::Ramp;
-        free && channel.ramp == 0 && channel.wanted_duty() > 0
+        free && channel.ramp == 0 && channel.target > 0
     };
     (0..CHANNELS).filter(waits).count()
 }

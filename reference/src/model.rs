@@ -34,12 +34,10 @@ const CONTROL_KEPT: u8 = 0xAF;
 const CONTROL_WRITTEN: u8 = 0xAE;
 
 // "02h to 07h, channels 1 to 6: bit 7 RPM mode, 6:5 spin-up code, 4 monitor only, 3 tachometer
-// enabled, 2 locked rotor, 1 its polarity, 0 PWM pin used as tachometer." K9: "Refusals: 4 no longer
-// for bit 7".
-pub const RPM_MODE: u8 = 0x80;
+// enabled, 2 locked rotor, 1 its polarity, 0 PWM pin used as tachometer."
 pub const MONITOR_ONLY: u8 = 0x10;
 pub const TACHOMETER_ENABLED: u8 = 0x08;
-pub const CONFIGURATION_REFUSED: u8 = 0x05;
+pub const CONFIGURATION_REFUSED: u8 = 0x85;
 
 // "08h to 0Dh: 7:5 speed range, 4:2 rate code, 1 asymmetric fall."
 const DYNAMICS_KEPT: u8 = 0xFE;
@@ -111,32 +109,9 @@ impl Channel {
         self.config & TACHOMETER_ENABLED != 0
     }
 
-    pub fn rpm_mode(&self) -> bool {
-        self.config & RPM_MODE != 0
-    }
-
-    /// The duty that the ramp value moves to: the target in PWM mode. K9: "In it a channel's wanted
-    /// duty is 511 if its stored count is above target count plus window register, 0 if the count
-    /// plus window is below the target count, else its present ramp value. The wanted duty stands
-    /// wherever the one-tick rule and settling formula say target." Neither sum wraps.
-    pub fn wanted_duty(&self) -> u16 {
-        let [count, target_count] = [self.count, self.target_count].map(u32::from);
-        let window = u32::from(self.window);
-        if !self.rpm_mode() {
-            self.target
-        } else if count > target_count + window {
-            FULL_DUTY
-        } else if count + window < target_count {
-            0
-        } else {
-            self.ramp
-        }
-    }
-
-    /// "Spin-up is due at ramp value 0 with the target above 0 and the spin-up code not 0." A held
-    /// ramp value of 0 wants 0.
+    /// "Spin-up is due at ramp value 0 with the target above 0 and the spin-up code not 0."
     pub fn spin_up_due(&self) -> bool {
-        self.ramp == 0 && self.wanted_duty() > 0 && self.spin_up_code() != 0
+        self.ramp == 0 && self.target > 0 && self.spin_up_code() != 0
     }
 }
 
@@ -188,7 +163,7 @@ pub fn start_delay(code: u8) -> u16 {
 /// "Rate code k from 1 to 7: period 2^(k-1) ticks. With asymmetric fall the period of a falling
 /// duty is doubled." Rate code 0 has no period.
 pub fn period(channel: &Channel) -> u32 {
-    let falling = channel.wanted_duty() < channel.ramp;
+    let falling = channel.target < channel.ramp;
     let asymmetric = channel.dynamics & ASYMMETRIC_FALL != 0;
     let plain = 1 << (channel.rate_code() - 1);
     if falling && asymmetric {
@@ -387,11 +362,11 @@ pub fn moved(channel: &Channel, clock: u32) -> Channel {
         next.pulses = 0;
     } else if channel.rate_code() == 0 {
         // "Else with rate code 0 the ramp value becomes the target."
-        next.ramp = channel.wanted_duty();
+        next.ramp = channel.target;
     } else if clock % period(channel) == 0 {
         // "Else, if the clock is a multiple of the period, the ramp value moves one towards the
         // target."
-        next.ramp = one_towards(channel.ramp, channel.wanted_duty());
+        next.ramp = one_towards(channel.ramp, channel.target);
     }
     next
 }
@@ -408,8 +383,7 @@ fn one_towards(ramp: u16, target: u16) -> u16 {
 
 /// True when the next tick and every later one can change nothing but the clock: the watchdog
 /// counts no more, no wait runs, and each channel is under an override (ticks end none) or stands
-/// at the duty that it wants, which no tick changes. One that the wait holds back stands at 0 and
-/// wants more.
+/// at its target. One that is held back stands at 0, which is not its target.
 pub fn at_rest(state: &State) -> bool {
     let counting = state.watchdog_code() != 0 && !state.expired;
     !counting
@@ -417,7 +391,7 @@ pub fn at_rest(state: &State) -> bool {
         && (0..CHANNELS).all(|index| {
             let channel = &state.channels[index];
             deciding_line(state, index).is_override()
-                || channel.spin == 0 && channel.ramp == channel.wanted_duty()
+                || channel.spin == 0 && channel.ramp == channel.target
         })
 }
 
@@ -621,8 +595,7 @@ fn store_control(state: &mut State, byte: u8) {
 }
 
 /// "To a fan configuration with bit 4: that channel's ramp value and spin-up time become 0." "A
-/// changed spin-up code does not shorten one that runs." K9: "A change between modes without bit 4
-/// keeps the ramp value."
+/// changed spin-up code does not shorten one that runs."
 fn store_configuration(channel: &mut Channel, byte: u8) {
     channel.config = byte;
     if byte & MONITOR_ONLY != 0 {
@@ -741,7 +714,7 @@ pub fn tachometer(state: &State, channel: u32, count: u32) -> (u32, State) {
     if state.channels[index].tachometer_enabled() {
         next.channels[index].count = count.min(u32::from(FULL_COUNT)) as u16;
         if judged(state, index) {
-            judge(&mut next, index, output_duty(state, index));
+            judge(&mut next, index);
         }
     }
     (ACCEPTED, next)
@@ -762,25 +735,18 @@ pub fn queue_length(code: u8) -> u8 {
 }
 
 /// "Judged bad when the stored count exceeds the target count"; K3: "a stored count of 2,047 is bad
-/// for any target." K9: "At output 511 a result is judged bad in this mode exactly when the stored
-/// count is above twice the target count [..] or is 2,047; at any other output it is good, K3's
-/// 2,047 too." The channel has the new count, and the output is that of the state before the result.
-pub fn bad(channel: &Channel, output: u16) -> bool {
-    let highest_good = match (channel.rpm_mode(), output) {
-        (false, _) => channel.target_count,
-        (true, FULL_DUTY) => 2 * channel.target_count,
-        (true, _) => return false,
-    };
-    channel.count > highest_good || channel.count == FULL_COUNT
+/// for any target."
+pub fn bad(channel: &Channel) -> bool {
+    channel.count > channel.target_count || channel.count == FULL_COUNT
 }
 
 /// Judged bad, "the channel's queue count goes up, to at most 6, and if it is then at least the
 /// queue length (codes 0 to 3: 1, 2, 4, 6) the fault bit is set. Judged good: queue count 0, fault
 /// bit kept."
-fn judge(state: &mut State, index: usize, output: u16) {
+fn judge(state: &mut State, index: usize) {
     let length = queue_length(state.queue_code());
     let channel = &mut state.channels[index];
-    if bad(channel, output) {
+    if bad(channel) {
         channel.queue = (channel.queue + 1).min(LONGEST_QUEUE);
         if channel.queue >= length {
             state.faults |= 1 << index;

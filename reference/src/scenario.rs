@@ -4,7 +4,6 @@
 mod delays;
 mod galley;
 mod pulses;
-mod speeds;
 
 use std::mem;
 
@@ -40,8 +39,6 @@ pub struct Scenario {
     /// The next of the delay codes, and of the drills about fans that wait, taken in turn as well.
     next_delay: u8,
     next_waiting_drill: usize,
-    /// The next of the drills about channels that hold a speed, taken in turn as well.
-    next_holding_drill: usize,
     /// While a string is packed, its records: calls become records then, and no lines.
     packed: Option<Vec<Record>>,
     pub input: String,
@@ -64,7 +61,6 @@ pub fn scenario(seed: u64, calls: usize) -> Scenario {
         next_cut_off: 0,
         next_delay: 0,
         next_waiting_drill: 0,
-        next_holding_drill: 0,
         packed: None,
         input: format!("# Scenario of seed {seed}.\n"),
         answers: String::new(),
@@ -89,21 +85,20 @@ pub fn scenario(seed: u64, calls: usize) -> Scenario {
 /// All drills in a random order, each as often as its share says: so a short scenario has every one
 /// of them too.
 fn dealt_anew(random: &mut Random) -> Vec<Drill> {
-    let shares: [(usize, Drill); 14] = [
+    let shares: [(usize, Drill); 13] = [
         (19, Scenario::traffic_drill),
-        (13, Scenario::word_drill),
-        (7, Scenario::pulse_drill),
+        (11, Scenario::word_drill),
+        (6, Scenario::pulse_drill),
         (2, Scenario::frozen_boxes_drill),
         (1, Scenario::no_channel_drill),
         (12, Scenario::delay_drill),
-        (12, Scenario::hold_drill),
-        (5, Scenario::start_drill),
+        (3, Scenario::start_drill),
         (4, Scenario::load_drill),
         (14, Scenario::flaw_drill),
-        (5, Scenario::speed_drill),
-        (4, Scenario::encode_drill),
-        (86, Scenario::string_drill),
-        (44, Scenario::galley_drill),
+        (4, Scenario::speed_drill),
+        (3, Scenario::encode_drill),
+        (65, Scenario::string_drill),
+        (32, Scenario::galley_drill),
     ];
     let mut drills = Vec::new();
     for (times, drill) in shares {
@@ -132,16 +127,15 @@ impl Scenario {
 
     /// One of the drills whose calls, but for queries and dumps, have a kind: they can be packed.
     fn traffic_drill(&mut self) {
-        let drills: [(u32, Drill); 11] = [
+        let drills: [(u32, Drill); 10] = [
             (18, Scenario::register_drill),
             (5, Scenario::sweep_drill),
             (16, Scenario::ramp_drill),
             (14, Scenario::spin_up_drill),
             (10, Scenario::turning_drill),
             (6, Scenario::waiting_drill),
-            (8, Scenario::holding_drill),
             (12, Scenario::small_duty_drill),
-            (16, Scenario::watchdog_drill),
+            (14, Scenario::watchdog_drill),
             (44, Scenario::tachometer_drill),
             (16, Scenario::override_drill),
         ];
@@ -255,7 +249,6 @@ impl Scenario {
                 _ => {
                     let count = choices::span_to_expiry(&mut self.random, &self.state);
                     self.pass(count);
-                    self.refused_access();
                 }
             }
         }
@@ -544,7 +537,6 @@ impl Scenario {
                 10..=15 if number > 6 => self.traffic_drill(),
                 16 if number > 6 => self.turning_drill(),
                 17 if number > 6 => self.waiting_drill(),
-                18 if number > 6 => self.holding_drill(),
                 _ => self.any_call(),
             }
         }

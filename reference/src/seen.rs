@@ -3,7 +3,6 @@
 mod delays;
 mod galley;
 mod pulses;
-mod speeds;
 mod words;
 
 use std::collections::BTreeMap;
@@ -13,14 +12,13 @@ use crate::choices::SPEED_EDGES;
 use crate::console::{Call, GalleyCall};
 use crate::galley::Galley;
 use crate::model::{
-    bad, deciding_line, judged, output_duty, sound, Line, State, ACCEPTED, CHANNELS, FULL_COUNT,
-    NOT_SOUND, RESET,
+    bad, deciding_line, judged, sound, Line, State, ACCEPTED, CHANNELS, FULL_COUNT, NOT_SOUND,
+    RESET,
 };
 use crate::orders::{self, Reader, Run, KINDS, SHORT_BUFFER};
 pub use delays::SeenDelays;
 use galley::SeenGalley;
 pub use pulses::SeenPulses;
-pub use speeds::SeenSpeeds;
 use words::SeenWords;
 
 /// The lowest of the counts beside 2,047.
@@ -43,7 +41,6 @@ pub struct Seen {
     pub words: SeenWords,
     pub pulses: SeenPulses,
     pub delays: SeenDelays,
-    pub speeds: SeenSpeeds,
     /// Tachometer results that were not stored, not judged, judged good, judged bad.
     pub results: [usize; 4],
     /// Judged results by target count and then by stored count, both from `NEAR_FULL` to 2,047.
@@ -113,7 +110,6 @@ impl Seen {
                 self.answers[refusal as usize] += 1;
                 self.words.lines += usize::from(matches!(call, Call::Word { .. }));
                 self.pulses.lines += usize::from(matches!(call, Call::Pulse { .. }));
-                self.speeds.note_line(call, refusal);
                 self.note_effects(call, before, refusal, after);
             }
         }
@@ -125,7 +121,6 @@ impl Seen {
         self.flawed_loads += usize::from(!sound);
         self.pulses.note_load(state, sound);
         self.delays.note_load(state);
-        self.speeds.note_load(state, sound);
     }
 
     /// The galley and the first of the controllers are those before the call.
@@ -179,12 +174,8 @@ impl Seen {
                 self.faults_cleared += gained(after.faults, before.faults);
                 self.pulses.note_write(address, byte, before, after);
                 self.delays.note_write(address, byte, before, after);
-                self.speeds.note_write(address, byte, before);
             }
-            Call::Write { byte, .. } => {
-                self.words.note_refused_byte(refusal);
-                self.speeds.note_refused_byte(byte, refusal);
-            }
+            Call::Write { .. } => self.words.note_refused_byte(refusal),
             Call::Word { address, word } if refusal == ACCEPTED => {
                 self.note_access(before);
                 self.faults_cleared += gained(after.faults, before.faults);
@@ -193,9 +184,7 @@ impl Seen {
             Call::Word { .. } => self.words.note_refused(refusal, before),
             Call::Read { .. } if refusal == ACCEPTED => self.note_access(before),
             Call::Tachometer { channel, .. } if refusal == ACCEPTED => {
-                let index = channel as usize - 1;
-                self.note_result(before, after, index);
-                self.speeds.note_result(index, before, after);
+                self.note_result(before, after, channel as usize - 1);
             }
             Call::Pulse { channel } if refusal == ACCEPTED => {
                 let index = channel as usize - 1;
@@ -233,7 +222,6 @@ impl Seen {
         self.words.note_ticks(before, after);
         self.pulses.note_ticks(before, after);
         self.delays.note_ticks(before, count, after);
-        self.speeds.note_ticks(before, count, after);
         for index in 0..CHANNELS {
             // No other step leads away from ramp value 0 while spin-up is due, and within one
             // call it is due at the beginning or never.
@@ -298,7 +286,7 @@ fn kind_of_result(before: &State, after: &State, index: usize) -> usize {
         NOT_STORED
     } else if !judged(before, index) {
         NOT_JUDGED
-    } else if bad(channel, output_duty(before, index)) {
+    } else if bad(channel) {
         BAD
     } else {
         GOOD
@@ -355,7 +343,6 @@ impl fmt::Display for Seen {
         writeln!(out, "  encodings: {}", self.encodings)?;
         write!(out, "{}{}", self.runs, self.galley)?;
         write!(out, "{}{}{}", self.words, self.pulses, self.delays)?;
-        write!(out, "{}", self.speeds)?;
         self.show_results(out)?;
         writeln!(out, "  faults cleared: {}", self.faults_cleared)?;
         writeln!(out, "  FAN_FAIL asserted: {}", self.fan_fail_asserted)?;

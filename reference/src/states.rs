@@ -2,7 +2,6 @@
 //! field.
 
 pub mod galley;
-pub mod speeds;
 
 use crate::model::{
     watchdog_limit, Channel, State, CHANNELS, FULL_COUNT, FULL_DUTY, LONGEST_QUEUE,
@@ -129,9 +128,6 @@ fn random_channel(random: &mut Random) -> Channel {
     if random.chance(2, 3) {
         channel.config |= TACHOMETER_ENABLED;
     }
-    if random.chance(1, 4) {
-        speeds::set_speed(random, &mut channel);
-    }
     match random.below(8) {
         0 => {
             channel.config |= MONITOR_ONLY;
@@ -176,8 +172,12 @@ fn set_pulses(random: &mut Random, state: &mut State) {
 
 /// Sound, with a spin-up on most of the channels and under no override.
 pub fn spinning_state(random: &mut Random) -> State {
-    let mut state = calm_state(random);
+    let mut state = sound_state(random);
     state.modification = random.pick(&[MODIFICATION_A, MODIFICATION_B, MODIFICATION_B]);
+    state.pin = true;
+    state.control &= !STANDBY;
+    state.options = state.options & !0x0C | 0x04;
+    set_code(&mut state, 0, 0, false);
     for channel in &mut state.channels {
         if random.chance(5, 6) {
             channel.config &= !MONITOR_ONLY;
@@ -188,19 +188,13 @@ pub fn spinning_state(random: &mut Random) -> State {
     state
 }
 
-/// Sound, with no override on the whole box and the watchdog off.
-fn calm_state(random: &mut Random) -> State {
+/// Sound and under no override, with several fans that wait for their turn; the watchdog is off.
+pub fn waiting_state(random: &mut Random) -> State {
     let mut state = sound_state(random);
     state.pin = true;
     state.control &= !STANDBY;
     state.options = state.options & !0x0C | 0x04;
     set_code(&mut state, 0, 0, false);
-    state
-}
-
-/// Sound and under no override, with several fans that wait for their turn; the watchdog is off.
-pub fn waiting_state(random: &mut Random) -> State {
-    let mut state = calm_state(random);
     let waiting = random.between(2, CHANNELS as u32);
     let first = random.below(CHANNELS as u32);
     for place in first..first + waiting {
@@ -208,9 +202,6 @@ pub fn waiting_state(random: &mut Random) -> State {
         channel.config &= !MONITOR_ONLY;
         stand_down(channel);
         channel.target = random_duty(random).max(1);
-        if channel.rpm_mode() {
-            speeds::want_more_speed(random, channel);
-        }
         if random.chance(1, 2) {
             // Without a spin-up code it waits for its period too.
             channel.config &= !0x60;
@@ -324,7 +315,7 @@ pub enum Flaw {
     ShorterLimit,
 }
 
-pub const FLAWS: [Flaw; 43] = [
+pub const FLAWS: [Flaw; 44] = [
     Flaw::ControlBit(RESET),
     Flaw::ControlBit(0x10),
     Flaw::Mask2Bit(0x40),
@@ -342,6 +333,7 @@ pub const FLAWS: [Flaw; 43] = [
     Flaw::PulseUnderA,
     Flaw::PulseWithoutSpinUp,
     Flaw::EndedOverPulse,
+    Flaw::ConfigBit(0x80),
     Flaw::ConfigBit(0x04),
     Flaw::ConfigBit(0x01),
     Flaw::DynamicsBit,

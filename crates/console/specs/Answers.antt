@@ -61,7 +61,7 @@ told_by hand v bytes buffer verb.GalleyLoad = galley_loaded hand v
 abbrev pub Shows : Hand → List ℕ → ℕ → List ℕ → List ℕ → ℕ → View → Type 0
 Shows hand v at before after next view.Cabin = Put (cabin_line (reading_of hand.state)) at before after next
 Shows hand v at before after next view.Speed = Put (speed_line (speed_by v)) at before after next
-Shows hand v at before after next view.Show = Frame 2_184 at before after next
+Shows hand v at before after next view.Show = Frame 1_703 at before after next
 Shows hand v at before after next view.Chart = Put (chart_of hand.state (number v 0)) at before after next
 Shows hand v at before after next view.Decode = Frame 43_079 at before after next
 Shows hand v at before after next view.GalleyRead = Put (degrees_line (degrees_read hand.galley)) at before after next

@@ -5,7 +5,7 @@ use console_form::{put_either, put_form, put_seconds, put_text, put_valid};
 use device::codes::{ends_early, start_delay, watchdog_limit};
 use device::duty::{conditions, output_duty, overridden, wanted};
 use device::valid::valid;
-use registers::fields::{delay_code, range_code, rpm_mode, tachometer_enabled, watchdog_code};
+use registers::fields::{delay_code, range_code, tachometer_enabled, watchdog_code};
 use rules::{Channel, Conditions, STATE_NOT_VALID, Speed, State};
 
 fn put_watchdog(limit: u16, expired: bool, idle: u16, out: &mut [u8], at: usize) -> usize
@@ -131,122 +131,6 @@ fn put_starts(delay: u16, wait: u16, out: &mut [u8], at: usize) -> usize
     )
 }
 
-// Tenths of a percent of full speed: 511 is the whole, and any other duty counts 512ths.
-fn percent_tenths(duty: u16) -> u32 {
-    if duty == 511 {
-        return 1000;
-    }
-    duty as u32 * 1000 / 512
-}
-
-// Whether the wait holds a channel back: it has a duty to leave ramp value 0 for, and no override keeps it there.
-fn held_back(wait: u16, conditions: Conditions, channel: Channel) -> bool {
-    let wants = (channel.ramp == 0) & (0 < wanted(channel));
-    (0 < wait) & wants & !overridden(conditions, channel)
-}
-
-// The channel's number, and whether it is told a duty or a speed.
-fn put_mode(number: u32, rpm: bool, out: &mut [u8], at: usize) -> usize
-    ensures { Frame 22 at out.old out.new result }
-{
-    if rpm {
-        return put_form(b"      #  rpm", &[number], out, at);
-    }
-    put_form(b"      #  pwm", &[number], out, at)
-}
-
-// The ramp value, or that the channel waits: then it is 0.
-fn put_ramp(waiting: bool, ramp: u16, out: &mut [u8], at: usize) -> usize
-    ensures { Frame 16 at out.old out.new result }
-{
-    if waiting {
-        return put_text(b" waits", out, at);
-    }
-    put_form(b" #####", &[ramp as u32], out, at)
-}
-
-// The target duty, the duty that the channel moves to, the ramp value, and what comes out.
-fn put_duties(channel: Channel, waiting: bool, duty: u16, out: &mut [u8], at: usize) -> usize
-    ensures { Frame 96 at out.old out.new result }
-{
-    let tenths = percent_tenths(duty);
-    let goals = put_form(
-        b"  #####  #####",
-        &[channel.target as u32, wanted(channel) as u32],
-        out,
-        at,
-    );
-    let ramp = put_ramp(waiting, channel.ramp, out, goals);
-    put_form(
-        b"  ##### #####.#%",
-        &[duty as u32, tenths / 10, tenths % 10],
-        out,
-        ramp,
-    )
-}
-
-// The remaining ticks of a spin-up and the pulses counted in it, where one runs.
-fn put_spin_up(spin: u16, pulses: u8, out: &mut [u8], at: usize) -> usize
-    ensures { Frame 36 at out.old out.new result }
-{
-    if spin == 0 {
-        return put_text(b"       -      -\n", out, at);
-    }
-    put_form(b"   #####    ###\n", &[spin as u32, pulses as u32], out, at)
-}
-
-fn put_channel(
-    number: u32,
-    wait: u16,
-    conditions: Conditions,
-    channel: Channel,
-    out: &mut [u8],
-    at: usize,
-) -> usize
-    ensures { Frame 154 at out.old out.new result }
-{
-    let duty = output_duty(conditions, channel);
-    let waiting = held_back(wait, conditions, channel);
-    let mode = put_mode(number, rpm_mode(channel.config), out, at);
-    let duties = put_duties(channel, waiting, duty, out, mode);
-    put_spin_up(channel.spin, channel.pulses, out, duties)
-}
-
-fn put_channels(state: State, out: &mut [u8], at: usize) -> usize
-    ensures { Frame 1026 at out.old out.new result }
-{
-    let conditions = conditions(state);
-    let wait = state.timer.wait;
-    let channels = state.channels;
-    let mut next = put_text(
-        b"channels, with spin-up in ticks left:\nchannel mode target wanted  ramp output  percent spin-up pulses\n",
-        out,
-        at,
-    );
-    for i in 0..6u32 {
-        let channel = channels[i as usize];
-        next = put_channel(i + 1, wait, conditions, channel, out, next);
-    }
-    next
-}
-
-// What the count is held against: in RPM mode these three decide the duty that the channel moves to.
-fn put_counts(number: u32, channel: Channel, out: &mut [u8], at: usize) -> usize
-    ensures { Frame 67 at out.old out.new result }
-{
-    put_form(
-        b"      #  #####    ### #####",
-        &[
-            number,
-            channel.target_count as u32,
-            channel.window as u32,
-            channel.count as u32,
-        ],
-        out,
-        at,
-    )
-}
-
 // Why there is no speed: the tachometer is off, or else what the calculation answered.
 fn put_no_speed(enabled: bool, why: &[u8; 10], out: &mut [u8], at: usize) -> usize
     ensures { Frame 10 at out.old out.new result }
@@ -268,43 +152,110 @@ fn put_speed(channel: Channel, out: &mut [u8], at: usize) -> usize
     }
 }
 
+// Tenths of a percent of full speed: 511 is the whole, and any other duty counts 512ths.
+fn percent_tenths(duty: u16) -> u32 {
+    if duty == 511 {
+        return 1000;
+    }
+    duty as u32 * 1000 / 512
+}
+
+// Whether the wait holds a channel back: it has a duty to leave ramp value 0 for, and no override keeps it there.
+fn held_back(wait: u16, conditions: Conditions, channel: Channel) -> bool {
+    let wants = (channel.ramp == 0) & (0 < wanted(channel));
+    (0 < wait) & wants & !overridden(conditions, channel)
+}
+
+// The ramp value, or that the channel waits: then it is 0.
+fn put_ramp(waiting: bool, ramp: u16, out: &mut [u8], at: usize) -> usize
+    ensures { Frame 16 at out.old out.new result }
+{
+    if waiting {
+        return put_text(b" waits", out, at);
+    }
+    put_form(b" #####", &[ramp as u32], out, at)
+}
+
+fn put_duties(
+    number: u32,
+    channel: Channel,
+    waiting: bool,
+    duty: u16,
+    out: &mut [u8],
+    at: usize,
+) -> usize
+    ensures { Frame 112 at out.old out.new result }
+{
+    let tenths = percent_tenths(duty);
+    let target = put_form(b"      #  #####", &[number, channel.target as u32], out, at);
+    let ramp = put_ramp(waiting, channel.ramp, out, target);
+    put_form(
+        b"  ##### #####.#% #####",
+        &[duty as u32, tenths / 10, tenths % 10, channel.count as u32],
+        out,
+        ramp,
+    )
+}
+
 // The queue count and the fault bit.
 fn put_queue(queue: u8, fault: bool, out: &mut [u8], at: usize) -> usize
-    ensures { Frame 21 at out.old out.new result }
+    ensures { Frame 22 at out.old out.new result }
 {
     if fault {
-        return put_form(b"   ### yes\n", &[queue as u32], out, at);
+        return put_form(b"   ### yes  ", &[queue as u32], out, at);
     }
-    put_form(b"   ### no\n", &[queue as u32], out, at)
+    put_form(b"   ### no   ", &[queue as u32], out, at)
 }
 
-fn put_tachometer(number: u32, channel: Channel, out: &mut [u8], at: usize) -> usize
-    ensures { Frame 108 at out.old out.new result }
+// The remaining ticks of a spin-up and the pulses counted in it, where one runs.
+fn put_spin_up(spin: u16, pulses: u8, out: &mut [u8], at: usize) -> usize
+    ensures { Frame 36 at out.old out.new result }
 {
-    let counts = put_counts(number, channel, out, at);
-    let speed = put_speed(channel, out, counts);
-    put_queue(channel.queue, channel.fault, out, speed)
+    if spin == 0 {
+        return put_text(b"       -      -\n", out, at);
+    }
+    put_form(b"   #####    ###\n", &[spin as u32, pulses as u32], out, at)
 }
 
-fn put_tachometers(state: State, out: &mut [u8], at: usize) -> usize
-    ensures { Frame 754 at out.old out.new result }
+fn put_channel(
+    number: u32,
+    wait: u16,
+    conditions: Conditions,
+    channel: Channel,
+    out: &mut [u8],
+    at: usize,
+) -> usize
+    ensures { Frame 190 at out.old out.new result }
 {
+    let duty = output_duty(conditions, channel);
+    let waiting = held_back(wait, conditions, channel);
+    let duties = put_duties(number, channel, waiting, duty, out, at);
+    let speed = put_speed(channel, out, duties);
+    let queue = put_queue(channel.queue, channel.fault, out, speed);
+    put_spin_up(channel.spin, channel.pulses, out, queue)
+}
+
+fn put_channels(state: State, out: &mut [u8], at: usize) -> usize
+    ensures { Frame 1299 at out.old out.new result }
+{
+    let conditions = conditions(state);
+    let wait = state.timer.wait;
     let channels = state.channels;
     let mut next = put_text(
-        b"tachometers, with the speed at two pulses a revolution:\nchannel target window count       rpm queue fault\n",
+        b"channels, with the speed at two pulses a revolution and spin-up in ticks left:\nchannel target  ramp output  percent count       rpm queue fault spin-up pulses\n",
         out,
         at,
     );
     for i in 0..6u32 {
         let channel = channels[i as usize];
-        next = put_tachometer(i + 1, channel, out, next);
+        next = put_channel(i + 1, wait, conditions, channel, out, next);
     }
     next
 }
 
-// The whole state: the timer, the pins, the modification, the wait, and two tables of the channels: their duties and their tachometers.
+// The whole state: the timer, the pins, the modification, the wait, and a table of the channels.
 pub fn put_show(state: State, out: &mut [u8], at: usize) -> usize
-    ensures { Frame 2184 at out.old out.new result }
+    ensures { Frame 1703 at out.old out.new result }
 {
     let conditions = conditions(state);
     let timer = put_timer(state, out, at);
@@ -312,6 +263,5 @@ pub fn put_show(state: State, out: &mut [u8], at: usize) -> usize
     let modification = put_modification(state.start.modification, out, pins);
     let delay = start_delay(delay_code(state.registers.options));
     let starts = put_starts(delay, state.timer.wait, out, modification);
-    let channels = put_channels(state, out, starts);
-    put_tachometers(state, out, channels)
+    put_channels(state, out, starts)
 }

@@ -31,18 +31,8 @@ fn ramping() -> State {
     next
 }
 
-// Every fan in RPM mode at full duty, its tachometer enabled, with this count; the target count is 480 and the window 0.
-fn by_speed(count: u16) -> State {
-    let mut next = settled();
-    let mut fan = next.channels[0];
-    fan.config = 0x88;
-    fan.count = count;
-    next.channels = [fan, fan, fan, fan, fan, fan];
-    next
-}
-
-// A state of a kind: settled, ramping, watchdog counting, faults judged, held or slowed down in RPM mode, all six waiting to start, with
-// spin-up due or not, or overridden (and anything else).
+// A state of a kind: settled, ramping, watchdog counting, faults judged, all six waiting to start, with spin-up due or not, or overridden
+// (and anything else).
 fn state_of(kind: u8) -> State {
     if kind == b's' {
         return settled();
@@ -55,12 +45,6 @@ fn state_of(kind: u8) -> State {
     }
     if kind == b'f' {
         return failing(settled());
-    }
-    if kind == b'h' {
-        return by_speed(480);
-    }
-    if kind == b'v' {
-        return by_speed(479);
     }
     let waiting = start::start(0, 0, 511, 0x11, 0);
     if kind == b'q' {

@@ -9,7 +9,7 @@ use lib.Dec.{ltb, eqb, lit<}
 use lib.ListN.{length, set, get_or-eq_default, replicate}
 use borrow.Author.Tests.{ltb-true, ltb-false, eqb-true, eqb-false, le-ltb}
 use Rattle.demands.specs.Types.{Channel, State, Conditions, Override, None, Duty, Answer}
-use Rattle.rules.specs.State.{blank, channel, results, registers, start_values, timer, with_settings, with_results, with_motion, with_ramp, with_channels, with_registers, with_timer, with_wait}
+use Rattle.rules.specs.State.{blank, channel, registers, start_values, timer, with_settings, with_motion, with_ramp, with_channels, with_registers, with_timer, with_wait}
 use Rattle.rules.specs.Registers.{rate_code, watchdog_code, delay_code}
 use Rattle.rules.specs.Time.{watchdog_limit, start_delay}
 use Rattle.rules.specs.Duty.{conditions_of, override_by, override_of, duty_under, output_duty}
@@ -18,7 +18,7 @@ use Rattle.rules.specs.Start.{start_channel, as_at_start}
 use Rattle.rules.specs.Calls.{accepted, state_not_valid, answer, read_answer}
 use Rattle.rules.specs.Make.{made, made_each, after_each}
 use Rattle.rules.specs.Tick.{wanted, period_of, spin_up_due, in_force, overridden, idle_limit, timer_tick, toward, channel_tick, leaves_zero, in_turn, wait_after, channels_tick, wait_tick, delay_of, tick, iterate, ticks_passed}
-use Rattle.demands.specs.Elapsed.{answers, end_of, total, totals, distance, settling_ticks, duty_at, Runs, Undisturbed, Settles, AsCounted}
+use Rattle.demands.specs.Elapsed.{answers, end_of, total, totals, distance, settling_ticks, duty_at, Settles, AsCounted}
 use Rattle.rules.proofs.Tests.{by-test}
 use Rattle.laws.proofs.Iterate.{iterate-add}
 use Rattle.laws.proofs.Ramp.{approach, multiples, approach-up, approach-down, multiples-settled, multiples-sooner}
@@ -54,7 +54,7 @@ end-counted s (n ∷ elapsed) v =
     ap (λ (a : Answer). end_of a.state elapsed) (passed-valid s n v)
     ∙ end-counted (iterate n tick s) elapsed (iterate-valid n s v) ∙ sym (iterate-add tick n (total elapsed) s)
 
-pub end_refused : (s : State) (elapsed : List ℕ) → valid_of s ≡ false → end_of s elapsed ≡ s
+end_refused : (s : State) (elapsed : List ℕ) → valid_of s ≡ false → end_of s elapsed ≡ s
 unfolding made after_each
 end_refused s [] v = refl
 end_refused s (n ∷ elapsed) v = ap (λ (a : Answer). end_of a.state elapsed) (passed-refused s n v) ∙ end_refused s elapsed v
@@ -105,7 +105,7 @@ free-duty k ch free z = by-override (override_of k ch) free
 abbrev pub Own : State → ℕ → ℕ → Type 0
 Own s i k = channel (ahead s k) i ≡ alone (conditions_of s) k s.timer.clock (channel s i)
 
--- so it is above 0; with no wait and no delay; and at wait 0 where 0 is what every other channel wants
+-- so it is above 0; with no wait and no delay; and at wait 0 with every other channel at ramp value and target 0
 module _ (s : State) (i : ℕ) (exists : i < length s.channels) where
   pub above-own : ((channel s i).ramp ≡ 0 → ⊥) → (k : ℕ) → Own s i k
   unfolding ahead row_after
@@ -116,11 +116,11 @@ module _ (s : State) (i : ℕ) (exists : i < length s.channels) where
   unfolding ahead row_after start_delay
   free_own z code k = free-alone (conditions_of s) (delay_of s) k s.timer.clock (row_of s) i exists z (ap start_delay code)
 
-  pub only-own : s.timer.wait ≡ 0 → ((n : ℕ) → (n ≡ i → ⊥) → wanted (channel s n) ≡ 0) → (k : ℕ) → Own s i k
-  unfolding ahead row_after
+  pub only-own : s.timer.wait ≡ 0 → ((n : ℕ) → (n ≡ i → ⊥) → ((channel s n).ramp ≡ 0) × ((channel s n).target ≡ 0)) → (k : ℕ) → Own s i k
+  unfolding ahead row_after wanted
   only-own z others k =
       only-alone (conditions_of s) (delay_of s) i k s.timer.clock (row_of s) exists z
-      (λ n other. sym (waits-not-wanted (conditions_of s) (channel s n) (others n other)))
+      (λ n other. sym (waits-not-wanted (conditions_of s) (channel s n) (others n other).1))
 
 -- with no override in force
 module _ (s : State) (i : ℕ) (free : overridden (conditions_of s) (channel s i) ≡ false) (k : ℕ) (own : Own s i k) where
@@ -135,7 +135,10 @@ module _ (s : State) (i : ℕ) (free : overridden (conditions_of s) (channel s i
       ∙ ap (output_duty (conditions_of s)) (channel-ahead ∙ e)
       ∙ free-duty (conditions_of s) (with_motion (channel s i) ramp spin pulses) free z
 
-module _ (s : State) (i n : ℕ) (c : Undisturbed s i n) where
+module _ (s : State) (i : ℕ) (c : Settles s i) where
+  ch : Channel
+  ch = channel s i
+
   -- past the last channel there is none with a rate code
   exists : i < length s.channels
   exists =
@@ -144,39 +147,46 @@ module _ (s : State) (i n : ℕ) (c : Undisturbed s i n) where
         | no g ↦ absurd (c.has-rate (ap (λ (x : Channel). rate_code x.dynamics) (get_or-eq_default s.channels blank (omega arith))))
       ]
 
-  own : (k : ℕ) → Own s i k
-  own k =
-      by-test (eqb (channel s i).ramp 0)
-      (λ e. let z = c.no-wait (eqb-true _ 0 e) in free_own s i exists z.0 z.1 k)
-      (λ e. above-own s i exists (eqb-false _ 0 e) k)
+  far : 0 < distance ch
+  unfolding ch
+  far =
+      let off : (channel s i).ramp ≡ wanted (channel s i) → ⊥ = λ e. c.off-target (free-duty (conditions_of s) (channel s i) c.not-overridden c.not-running ∙ e) in
+      by-test (ltb (channel s i).ramp (wanted (channel s i)))
+      (λ e. rw e (omega (arith, ltb-true (channel s i).ramp (wanted (channel s i)) e)))
+      (λ e. rw e (omega (arith, off, ltb-false (channel s i).ramp (wanted (channel s i)) e)))
 
-  -- within n ticks the watchdog's limit is not reached, and the ramp goes by its closed form
-  module _ (elapsed : List ℕ) (h : total elapsed ≤ n) where
-    short : end_of s elapsed ≡ ahead s (total elapsed)
+  -- up to the settling tick the watchdog's limit is not reached, and the duty is the ramp's closed form
+  module _ (k : ℕ) (h : k ≤ settling_ticks s.timer.clock (channel s i)) where
+    short : iterate k tick s ≡ ahead s k
     short =
-        end-counted s elapsed c.is-valid
-        ∙ ticks-ahead s (total elapsed) (λ on. let l = counting-live s on in
+        ticks-ahead s k (λ on. let l = counting-live s on in
         omega (arith, c.none-coming (eqb-false (watchdog_code s.registers.control) 0 l.0) l.1))
 
-    ramps : Runs (end_of s elapsed) i (ramped_by s.timer.clock (total elapsed) (channel s i))
-    ramps =
-        let way = ticks-ramp s.timer.clock (channel s i) c.not-running c.not-due (total elapsed) c.has-rate in (
-          ap (λ x. duty_at x i) short
-              ∙ duty-ahead s i c.not-overridden (total elapsed) (own (total elapsed)) _ (channel s i).spin (channel s i).pulses way c.not-running,
-          ap (λ x. (channel x i).ramp) short
-              ∙ ap (λ (x : Channel). x.ramp) (channel-ahead s i c.not-overridden (total elapsed) (own (total elapsed)) ∙ way),
-        )
+    own : Own s i k
+    own =
+        by-test (eqb (channel s i).ramp 0)
+        (λ e. let z = c.no-wait (eqb-true _ 0 e) in free_own s i exists z.0 z.1 k)
+        (λ e. above-own s i exists (eqb-false _ 0 e) k)
 
-    -- with the settling formula's ticks it is where it wants to be, and with fewer it is not
-    pub reached : settling_ticks s.timer.clock (channel s i) ≤ total elapsed → Runs (end_of s elapsed) i (wanted (channel s i))
-    reached l =
-        let enough = multiples-settled (period_of (channel s i)) (period-pos (channel s i)) s.timer.clock (distance (channel s i)) (total elapsed) l in
-        rw (far-enough (channel s i) _ enough) at ramps
+    duty-then : duty_at (iterate k tick s) i ≡ ramped_by s.timer.clock k (channel s i)
+    duty-then =
+        ap (λ x. duty_at x i) short
+        ∙ duty-ahead s i c.not-overridden k own _ (channel s i).spin (channel s i).pulses
+        (ticks-ramp s.timer.clock (channel s i) c.not-running c.not-due k c.has-rate) c.not-running
 
-    pub not-reached : total elapsed < settling_ticks s.timer.clock (channel s i) → duty_at (end_of s elapsed) i ≡ wanted (channel s i) → ⊥
-    not-reached l e =
-        let short-of = multiples-sooner (period_of (channel s i)) (period-pos (channel s i)) s.timer.clock (distance (channel s i)) (total elapsed) l in
-        not-far-enough (channel s i) _ short-of (sym ramps.0 ∙ e)
+  at_target : (elapsed : List ℕ) → total elapsed ≡ settling_ticks s.timer.clock (channel s i) → duty_at (end_of s elapsed) i ≡ wanted (channel s i)
+  unfolding ch
+  at_target elapsed e =
+      let n = multiples-settled (period_of (channel s i)) (period-pos (channel s i)) s.timer.clock (distance (channel s i)) far in
+      ap (λ x. duty_at x i) (end-counted s elapsed c.is-valid) ∙ duty-then (total elapsed) (omega arith)
+      ∙ far-enough (channel s i) _ (omega (arith, ap (multiples (period_of (channel s i)) s.timer.clock) e ∙ n))
+
+  off-target-before : (elapsed : List ℕ) → total elapsed < settling_ticks s.timer.clock (channel s i) → duty_at (end_of s elapsed) i ≡ wanted (channel s i) → ⊥
+  unfolding ch
+  off-target-before elapsed l e =
+      let n = multiples-sooner (period_of (channel s i)) (period-pos (channel s i)) s.timer.clock (distance (channel s i)) far (total elapsed) l in
+      not-far-enough (channel s i) _ n
+      (sym (ap (λ x. duty_at x i) (end-counted s elapsed c.is-valid) ∙ duty-then (total elapsed) (omega arith)) ∙ e)
 
 -- ---- all of it
 
@@ -187,8 +197,8 @@ as-counted =
       refused = all-refused;
       same_total = same_end;
       joined = λ s a b h. one-after-the-other s a b;
-      settles = λ s i elapsed c e. (reached s i _ c.undisturbed elapsed (omega arith) (omega arith)).0;
-      not-sooner = λ s i elapsed c l e. not-reached s i _ c.undisturbed elapsed (omega arith) l e;
+      settles = λ s i elapsed c e. at_target s i c elapsed e;
+      not-sooner = λ s i elapsed c l e. off-target-before s i c elapsed l e;
     }
 
 -- ---- states and channels that settle
@@ -200,14 +210,16 @@ settling_from ramp target dynamics code idle =
     let ch = with_motion (with_settings (start_channel v) 0 dynamics 0 target 480) ramp 0 0 in
     with_channels (with_timer (as_at_start v 6 true) (timer 6 idle false false 0)) (replicate 6 ch)
 
--- by tests that antt computes
-pub undisturbed-as-tested : (s : State) (i n : ℕ) → let ch = channel s i in
-    valid_of s ≡ true → eqb (rate_code ch.dynamics) 0 ≡ false → ch.spin ≡ 0 → spin_up_due ch ≡ false → overridden (conditions_of s) ch ≡ false →
-    ((watchdog_code s.registers.control ≡ 0 → ⊥) → s.timer.expired ≡ false → s.timer.idle + n < idle_limit s) →
-    (ch.ramp ≡ 0 → (s.timer.wait ≡ 0) × (delay_code s.registers.options ≡ 0)) → Undisturbed s i n
-undisturbed-as-tested s i n valid rate rests due free coming wait =
+-- channel 1, by tests that antt computes
+settles-as-tested : (s : State) → let ch = channel s 0 in
+    valid_of s ≡ true → eqb (duty_at s 0) (wanted ch) ≡ false → eqb (rate_code ch.dynamics) 0 ≡ false →
+    ch.spin ≡ 0 → spin_up_due ch ≡ false → overridden (conditions_of s) ch ≡ false →
+    ((watchdog_code s.registers.control ≡ 0 → ⊥) → s.timer.expired ≡ false → s.timer.idle + settling_ticks s.timer.clock ch < idle_limit s) →
+    (ch.ramp ≡ 0 → (s.timer.wait ≡ 0) × (delay_code s.registers.options ≡ 0)) → Settles s 0
+settles-as-tested s valid off rate rests due free coming wait =
     record {
       is-valid = valid;
+      off-target = eqb-false _ _ off;
       has-rate = eqb-false _ 0 rate;
       not-running = rests;
       not-due = due;
@@ -216,10 +228,6 @@ undisturbed-as-tested s i n valid rate rests due free coming wait =
       no-wait = wait;
     }
 
-settles-as-tested : (s : State) → let ch = channel s 0 in
-    eqb (duty_at s 0) (wanted ch) ≡ false → Undisturbed s 0 (settling_ticks s.timer.clock ch) → Settles s 0
-settles-as-tested s off c = record { off-target = eqb-false _ _ off; undisturbed = c }
-
 -- ramp value 100, target 110, rate code 3, watchdog off: after 38 ticks
 abbrev pub rising_state : State
 rising_state = settling_from 100 110 0x4C 0 0
@@ -227,7 +235,7 @@ rising_state = settling_from 100 110 0x4C 0 0
 pub rising-example : Settles rising_state 0 × (settling_ticks 6 (channel rising_state 0) ≡ 38)
 unfolding valid_of valid_registers valid_start valid_timer valid_channel valid_pulses watchdog_limit conditions_of override_by output_duty spin_up_due wanted
 rising-example =
-    (settles-as-tested rising_state refl (undisturbed-as-tested rising_state 0 _ refl refl refl refl refl (λ on live. absurd (on refl)) (λ z. absurd (omega arith))), refl)
+    (settles-as-tested rising_state refl refl refl refl refl refl (λ on live. absurd (on refl)) (λ z. absurd (omega arith)), refl)
 
 -- ramp value 110, target 100, rate code 3, asymmetric fall, watchdog code 1 with 2,485 of 2,560 ticks counted: after 74 ticks, one
 -- before the watchdog would expire
@@ -237,20 +245,7 @@ falling_state = settling_from 110 100 0x4E 1 2485
 pub falling-example : Settles falling_state 0 × (settling_ticks 6 (channel falling_state 0) ≡ 74)
 unfolding valid_of valid_registers valid_start valid_timer valid_channel valid_pulses watchdog_limit conditions_of override_by output_duty spin_up_due wanted
 falling-example =
-    (settles-as-tested falling_state refl (undisturbed-as-tested falling_state 0 _ refl refl refl refl refl (λ on live. lit< tt) (λ z. absurd (omega arith))), refl)
-
--- K9: in RPM mode with target count 480, window 10 and count 469, one beyond the window's edge: the fan is too quick, and though the target
--- is 300 its ramp value falls from 110 to 0, with rate code 3 and asymmetric fall after 874 ticks
-abbrev pub quick_state : State
-quick_state =
-    let ch = channel (settling_from 110 300 0x4E 0 0) 0 in
-    let fan = with_results (with_settings ch 0x88 ch.dynamics 10 ch.target 480) (results 469 0 false) in
-    with_channels (settling_from 110 300 0x4E 0 0) (replicate 6 fan)
-
-pub quick-example : Settles quick_state 0 × (wanted (channel quick_state 0) ≡ 0) × (settling_ticks 6 (channel quick_state 0) ≡ 874)
-unfolding valid_of valid_registers valid_start valid_timer valid_channel valid_pulses conditions_of override_by output_duty spin_up_due wanted
-quick-example =
-    (settles-as-tested quick_state refl (undisturbed-as-tested quick_state 0 _ refl refl refl refl refl (λ on live. absurd (on refl)) (λ z. absurd (omega arith))), refl, refl)
+    (settles-as-tested falling_state refl refl refl refl refl refl (λ on live. lit< tt) (λ z. absurd (omega arith)), refl)
 
 -- ramp value 0, target 10, rate code 3, wait and delay code 0: after 38 ticks, though all six leave 0 in the second of them
 abbrev pub free_state : State
@@ -261,7 +256,7 @@ pub free-example : Settles free_state 0 × (settling_ticks 6 (channel free_state
     × (map (λ ch. ch.ramp) (end_of free_state (2 ∷ [])).channels ≡ replicate 6 1)
 unfolding valid_of valid_registers valid_start valid_timer valid_channel valid_pulses conditions_of override_by output_duty spin_up_due wanted made after_each ticks_passed iterate tick timer_tick channels_tick wait_tick in_turn wait_after leaves_zero channel_tick start_delay toward
 free-example =
-    (settles-as-tested free_state refl (undisturbed-as-tested free_state 0 _ refl refl refl refl refl (λ on live. absurd (on refl)) (λ z. (refl, refl))), refl, refl, refl)
+    (settles-as-tested free_state refl refl refl refl refl refl (λ on live. absurd (on refl)) (λ z. (refl, refl)), refl, refl, refl)
 
 -- ramp value 100 and target 110 as above, at wait 5 and delay code 2, while channel 2 leaves 0 within the 38 ticks
 abbrev pub beside_state : State
@@ -274,4 +269,4 @@ pub beside-example : Settles beside_state 0 × (settling_ticks 6 (channel beside
     × ((channel beside_state 1).ramp ≡ 0) × ((channel (end_of beside_state (38 ∷ [])) 1).ramp ≡ 9)
 unfolding valid_of valid_registers valid_start valid_timer valid_channel valid_pulses conditions_of override_by output_duty spin_up_due wanted made after_each ticks_passed iterate tick timer_tick channels_tick wait_tick in_turn wait_after leaves_zero channel_tick toward
 beside-example =
-    (settles-as-tested beside_state refl (undisturbed-as-tested beside_state 0 _ refl refl refl refl refl (λ on live. absurd (on refl)) (λ z. absurd (omega arith))), refl, refl, refl, refl, refl)
+    (settles-as-tested beside_state refl refl refl refl refl refl (λ on live. absurd (on refl)) (λ z. absurd (omega arith)), refl, refl, refl, refl, refl)

@@ -6,4 +6,3 @@ pub mod Stopped
 pub mod InOneGo
 pub mod Pulses
 pub mod OneAtATime
-pub mod HoldSpeed

@@ -11,13 +11,12 @@ use borrow.Author.Tests.{le-leb, lt-leb, leb-true, leb-false}
 use Rattle.demands.specs.Types.{Channel, Results, State, Conditions, Override, None, Duty}
 use Rattle.rules.specs.Basics.{if◌then◌else◌, some}
 use Rattle.rules.specs.State.{blank, channel, results, results_of, with_results}
-use Rattle.rules.specs.Registers.{tachometer_enabled, queue_code}
+use Rattle.rules.specs.Registers.{monitor_only, tachometer_enabled, queue_code}
 use Rattle.rules.specs.Duty.{conditions_of, override_of, duty_under, output_duty}
 use Rattle.rules.specs.Tachometer.{queue_length, stored_count, judged, is_bad, bad_result, good_result, result_taken, channel_result, with_result, result_of}
 use Rattle.rules.specs.Make.{made, after_each}
 use Rattle.demands.specs.Trials.{OneOfSix, after_results}
 use Rattle.rules.proofs.Tests.{by-test, choice, all-below, every-at}
-use Rattle.laws.proofs.Each.{map-alike}
 use Rattle.laws.proofs.Results.{result-valid}
 
 -- ---- one result
@@ -87,27 +86,20 @@ duty-same : (o : Override) (ch : Channel) (r : Results) → duty_under o (with_r
 duty-same None ch r = refl
 duty-same (Duty d) ch r = refl
 
-output-same : (k : Conditions) (ch : Channel) (r : Results) → r.fault ≡ ch.fault → output_duty k (with_results ch r) ≡ output_duty k ch
-unfolding output_duty
-output-same k ch r e = rw e (duty-same (override_of k ch) ch (results r.count r.queue ch.fault))
-
-bad-same : (k : Conditions) (ch : Channel) (r : Results) → r.fault ≡ ch.fault → (stored : ℕ) → is_bad k (with_results ch r) stored ≡ is_bad k ch stored
-unfolding is_bad
-bad-same k ch r e stored = rw (output-same k ch r e) refl
-
 judged-same : (k : Conditions) (ch : Channel) (r : Results) → r.fault ≡ ch.fault → judged k (with_results ch r) ≡ judged k ch
-unfolding judged
-judged-same k ch r e = rw (output-same k ch r e) refl
+unfolding judged output_duty
+judged-same k ch r e =
+    rw e (ap (λ d. not k.standby && eqb ch.spin 0 && (monitor_only ch.config || ltb 0 d)) (duty-same (override_of k ch) ch (results r.count r.queue ch.fault)))
 
 module _ (s : State) (i most queue count : ℕ) (c : Ready s i most queue) where
   abbrev next : State
   next = (result_of s (i + 1) count).state
 
-  bad-next : is_bad (conditions_of s) (channel s i) (stored_count count) ≡ true → channel next i ≡ with_results (channel s i) (bad_result most (stored_count count) (results_of (channel s i)))
+  bad-next : is_bad (channel s i) (stored_count count) ≡ true → channel next i ≡ with_results (channel s i) (bad_result most (stored_count count) (results_of (channel s i)))
   unfolding channel_result result_taken
   bad-next bad = channel-after s i count c.one-of-six ∙ rw (c.enabled, c.judged-is, bad, c.length-is) refl
 
-  good-next : is_bad (conditions_of s) (channel s i) (stored_count count) ≡ false → channel next i ≡ with_results (channel s i) (good_result (stored_count count) (results_of (channel s i)))
+  good-next : is_bad (channel s i) (stored_count count) ≡ false → channel next i ≡ with_results (channel s i) (good_result (stored_count count) (results_of (channel s i)))
   unfolding channel_result result_taken
   good-next good = channel-after s i count c.one-of-six ∙ rw (c.enabled, c.judged-is, good) refl
 
@@ -131,18 +123,17 @@ module _ (s : State) (i most queue count : ℕ) (c : Ready s i most queue) where
         }
 
     same-judgement : (counts : List ℕ) →
-        map (λ n. is_bad (conditions_of next) (channel next i) (stored_count n)) counts ≡ map (λ n. is_bad (conditions_of s) (channel s i) (stored_count n)) counts
-    same-judgement counts =
-        rw (same-conditions, is)
-        (map-alike _ _ (λ n. bad-same (conditions_of s) (channel s i) after (clear ∙ sym c.no-fault) (stored_count n)) counts)
+        map (λ n. is_bad (channel next i) (stored_count n)) counts ≡ map (λ n. is_bad (channel s i) (stored_count n)) counts
+    unfolding is_bad
+    same-judgement counts = rw is refl
 
 -- the fault bit of the channel after any judged results, whatever the queue code
 pub runs : (s : State) (i most queue : ℕ) (counts : List ℕ) → Ready s i most queue →
-    (channel (after_results s i counts) i).fault ≡ fault_after most queue (map (λ n. is_bad (conditions_of s) (channel s i) (stored_count n)) counts)
+    (channel (after_results s i counts) i).fault ≡ fault_after most queue (map (λ n. is_bad (channel s i) (stored_count n)) counts)
 unfolding made after_each
 runs s i most queue [] c = c.no-fault
 runs s i most queue (count ∷ rest) c =
-    by-test (is_bad (conditions_of s) (channel s i) (stored_count count))
+    by-test (is_bad (channel s i) (stored_count count))
     (λ bad. let is = bad-next s i most queue count c bad in
     let fault : ((channel s i).fault || leb most (min ((channel s i).queue + 1) 6)) ≡ leb most (min (queue + 1) 6) = rw (c.no-fault, c.queue-is) refl in
     let count-is : min ((channel s i).queue + 1) 6 ≡ min (queue + 1) 6 = rw c.queue-is refl in

@@ -1,45 +1,39 @@
 -- A fan that has stopped fails: results that are all stored as 2,047 set the fault bit and assert FAN_FAIL, whatever the target count and the queue
--- code. In RPM mode that is so at output 511, and below it no result is bad.
+-- code.
 use Prim.Native.Nat.{ℕ, zero, suc, ◌+◌, ◌≤◌, ◌<◌}
 use mathlib.Core.Path.{◌≡◌, refl, ◌∙◌, ap}
-use mathlib.Core.Bool.{Bool, true, false, not, ◌&&◌, false≢true}
+use mathlib.Core.Bool.{Bool, true, false, not, ◌&&◌}
 use mathlib.Core.List.{List, [], ◌∷◌, map}
 use native.Mathlib.Omega.{arith}
 use lib.Dec.{leb, eqb}
 use lib.ListN.{length, get_or, take, replicate}
 use borrow.Author.Tests.{le-leb, leb-true, eqb-true}
-use Rattle.demands.specs.Types.{State}
+use Rattle.demands.specs.Types.{Channel, State}
 use Rattle.rules.specs.Basics.{every, some}
-use Rattle.rules.specs.State.{channel, registers, with_settings, with_motion, with_registers, with_channels}
-use Rattle.rules.specs.Registers.{rpm_mode, tachometer_enabled, queue_code, masked}
+use Rattle.rules.specs.State.{channel, registers, with_settings, with_registers, with_channels}
+use Rattle.rules.specs.Registers.{queue_code, masked}
 use Rattle.rules.specs.Duty.{conditions_of, override_by, output_duty}
 use Rattle.rules.specs.Valid.{valid_channel, valid_pulses, valid_registers, valid_start, valid_timer, valid_of}
 use Rattle.rules.specs.Tachometer.{queue_length, stored_count, judged, is_bad, result_of}
 use Rattle.rules.specs.FanFail.{failed, fan_fail_of}
 use Rattle.rules.specs.Make.{made, after_each}
-use Rattle.rules.specs.Tick.{wanted}
 use Rattle.rules.proofs.Tests.{by-test, and_left, and_right, all-below}
-use Rattle.rules.proofs.Tachometer.{bad-at-2047, good-below-full}
+use Rattle.rules.proofs.Tachometer.{bad-at-2047}
 use Rattle.laws.proofs.Each.{map_at}
 use Rattle.laws.proofs.Keep.{each-valid}
 use Rattle.laws.proofs.Results.{result-no-access}
-use Rattle.demands.specs.Elapsed.{duty_at}
 use Rattle.demands.specs.Trials.{after_results}
 use Rattle.demands.proofs.Queue.{Ready, fault_after, runs, bad-row}
 use Rattle.demands.proofs.Trials.{steady}
 
 -- ---- its results
 
--- in PWM mode, or at output 511: K9's "at any other output it is good, K3's 2,047 too"
-abbrev pub FullInRpmMode : State → ℕ → Type 0
-FullInRpmMode s i = rpm_mode (channel s i).config ≡ true → duty_at s i ≡ 511
-
-stopped-results : (s : State) (i : ℕ) → FullInRpmMode s i → (counts : List ℕ) → every (leb 2047) counts ≡ true →
-    map (λ n. is_bad (conditions_of s) (channel s i) (stored_count n)) counts ≡ replicate (length counts) true
-stopped-results s i x [] e = refl
-stopped-results s i x (count ∷ counts) e =
+stopped-results : (ch : Channel) (counts : List ℕ) → every (leb 2047) counts ≡ true →
+    map (λ n. is_bad ch (stored_count n)) counts ≡ replicate (length counts) true
+stopped-results ch [] e = refl
+stopped-results ch (count ∷ counts) e =
     let full : stored_count count ≡ 2047 = omega (arith, leb-true 2047 count (and_left _ _ e)) in
-    rw (full, bad-at-2047 (conditions_of s) (channel s i) x) (ap (λ bads. true ∷ bads) (stopped-results s i x counts (and_right (leb 2047 count) _ e)))
+    rw (full, bad-at-2047 ch) (ap (λ bads. true ∷ bads) (stopped-results ch counts (and_right (leb 2047 count) _ e)))
 
 registers-stay : (s : State) (i : ℕ) (counts : List ℕ) → (after_results s i counts).registers ≡ s.registers
 unfolding made after_each
@@ -67,13 +61,13 @@ one-failed s i below fault clear =
 -- ---- the fan
 
 -- counts of at least 2,047, and a queue count below the queue length
-module _ (s : State) (i most queue : ℕ) (counts : List ℕ) (c : Ready s i most queue) (x : FullInRpmMode s i) (short : queue < most) (stopped : every (leb 2047) counts ≡ true) where
+module _ (s : State) (i most queue : ℕ) (counts : List ℕ) (c : Ready s i most queue) (short : queue < most) (stopped : every (leb 2047) counts ≡ true) where
   -- the fault bit comes with the result that brings the queue count to that length
   pub stopped-fan-fails : (channel (after_results s i counts) i).fault ≡ leb most (queue + length counts)
   stopped-fan-fails =
       let is : queue_length (queue_code s.registers.options) ≡ most = c.length-is in
       runs s i most queue counts c
-      ∙ ap (fault_after most queue) (stopped-results s i x counts stopped)
+      ∙ ap (fault_after most queue) (stopped-results (channel s i) counts stopped)
       ∙ (rw is at (bad-row (queue_code s.registers.options) queue (length counts) (rw is short)))
 
   -- and FAN_FAIL is asserted then, if the channel's mask bit is clear
@@ -85,62 +79,33 @@ module _ (s : State) (i most queue : ℕ) (counts : List ℕ) (c : Ready s i mos
       let unmasked = ap (λ x. masked x.mask1 i) (registers-stay s i counts) ∙ clear in
       rw (each-valid s _ c.one-of-six.is-valid) (one-failed after i c.one-of-six.below fault unmasked)
 
--- K9: below output 511 a fan in RPM mode does not fail, whatever it counts
-module _ (s : State) (i most queue : ℕ) (c : Ready s i most queue) (rpm : rpm_mode (channel s i).config ≡ true) (low : duty_at s i ≡ 511 → ⊥) where
-  none-bad : (counts : List ℕ) (from : ℕ) → fault_after most from (map (λ n. is_bad (conditions_of s) (channel s i) (stored_count n)) counts) ≡ false
-  none-bad [] from = refl
-  none-bad (count ∷ counts) from = rw (good-below-full (conditions_of s) (channel s i) rpm (stored_count count) low) (none-bad counts 0)
-
-  pub held-fan-silent : (counts : List ℕ) → (channel (after_results s i counts) i).fault ≡ false
-  held-fan-silent counts = runs s i most queue counts c ∙ none-bad counts queue
-
--- a box as K3 tells of it: that of the trials with target count 2,047 and no fan masked; its queue length is 4. Its configuration and ramp
--- value are given
-abbrev seized : ℕ → ℕ → State
-seized config ramp =
+-- a box as K3 tells of it: that of the trials with target count 2,047 and no fan masked; its queue length is 4
+abbrev seized : State
+seized =
     let ch = channel steady 0 in
     with_channels (with_registers steady (registers 0x20 0 0x3F 0x00 0x46))
-    (replicate 6 (with_motion (with_settings ch config ch.dynamics ch.window ch.target 2047) ramp 0 0))
+    (replicate 6 (with_settings ch ch.config ch.dynamics ch.window ch.target 2047))
 
-seized-ready : (config ramp : ℕ) → let s = seized config ramp in
-    valid_of s ≡ true → tachometer_enabled config ≡ true → judged (conditions_of s) (channel s 0) ≡ true → Ready s 0 4 0
-unfolding queue_length
-seized-ready config ramp valid enabled is-judged =
-    record {
-      one-of-six = record { is-valid = valid; six = refl; below = omega arith };
-      enabled = enabled;
-      judged-is = is-judged;
-      length-is = refl;
-      no-fault = refl;
-      queue-is = refl;
-    }
-
--- in PWM mode at 200, in RPM mode at 511, and in RPM mode at 510
-seized-begins : Ready (seized 0x08 200) 0 4 0 × Ready (seized 0x88 511) 0 4 0 × Ready (seized 0x88 510) 0 4 0
-unfolding valid_of valid_registers valid_start valid_timer valid_channel valid_pulses conditions_of override_by output_duty judged
-seized-begins = (seized-ready 0x08 200 refl refl refl, seized-ready 0x88 511 refl refl refl, seized-ready 0x88 510 refl refl refl)
+seized-begins : Ready seized 0 4 0 × (masked seized.registers.mask1 0 ≡ false)
+unfolding valid_of valid_registers valid_start valid_timer valid_channel valid_pulses conditions_of override_by output_duty judged queue_length
+seized-begins = (
+  record {
+    one-of-six = record { is-valid = refl; six = refl; below = omega arith };
+    enabled = refl;
+    judged-is = refl;
+    length-is = refl;
+    no-fault = refl;
+    queue-is = refl;
+  },
+  refl,
+)
 
 abbrev four_counts : List ℕ
 four_counts = 2047 ∷ 2048 ∷ 4294967295 ∷ 5000 ∷ []
 
 -- three results are not enough, and the fourth is
-pub seized-examples : ((channel (after_results (seized 0x08 200) 0 (take 3 four_counts)) 0).fault ≡ false)
-    × ((fan_fail_of (after_results (seized 0x08 200) 0 four_counts)).asserted ≡ true)
-seized-examples =
-    let pwm : FullInRpmMode (seized 0x08 200) 0 = λ rpm. absurd (false≢true rpm) in (
-      stopped-fan-fails (seized 0x08 200) 0 4 0 (take 3 four_counts) seized-begins.0 pwm (omega arith) refl,
-      stopped-fan-told (seized 0x08 200) 0 4 0 four_counts seized-begins.0 pwm (omega arith) refl refl (omega arith),
-    )
-
--- in RPM mode so at 511, and never at 510, where its count of 2,047 is within the window too, so it is held there
-pub held-examples : ((channel (after_results (seized 0x88 511) 0 (take 3 four_counts)) 0).fault ≡ false)
-    × ((fan_fail_of (after_results (seized 0x88 511) 0 four_counts)).asserted ≡ true)
-    × ((channel (after_results (seized 0x88 510) 0 four_counts) 0).fault ≡ false)
-    × (wanted (channel (seized 0x88 510) 0) ≡ 510)
-unfolding conditions_of override_by output_duty wanted
-held-examples = (
-  stopped-fan-fails (seized 0x88 511) 0 4 0 (take 3 four_counts) seized-begins.1 (λ rpm. refl) (omega arith) refl,
-  stopped-fan-told (seized 0x88 511) 0 4 0 four_counts seized-begins.1 (λ rpm. refl) (omega arith) refl refl (omega arith),
-  held-fan-silent (seized 0x88 510) 0 4 0 seized-begins.2 refl (λ e. absurd (omega arith)) four_counts,
-  refl,
+pub seized-examples : ((channel (after_results seized 0 (take 3 four_counts)) 0).fault ≡ false) × ((fan_fail_of (after_results seized 0 four_counts)).asserted ≡ true)
+seized-examples = (
+  stopped-fan-fails seized 0 4 0 (take 3 four_counts) seized-begins.0 (omega arith) refl,
+  stopped-fan-told seized 0 4 0 four_counts seized-begins.0 (omega arith) refl seized-begins.1 (omega arith),
 )

@@ -10,7 +10,7 @@ use borrow.Author.Tests.{lt-ltb, le-ltb, eq-eqb, eqb-false}
 use Rattle.demands.specs.Types.{Channel, Results, State, Conditions, Answer, StatusRegister, Count, Output, ReadOnly}
 use Rattle.rules.specs.Basics.{flag}
 use Rattle.rules.specs.State.{blank, channel, registers, start_values, with_settings, with_motion, with_channels, with_registers}
-use Rattle.rules.specs.Registers.{rpm_mode, spin_code, rate_code, asymmetric, tachometer_enabled}
+use Rattle.rules.specs.Registers.{spin_code, rate_code, asymmetric, tachometer_enabled}
 use Rattle.rules.specs.Words.{count_word, output_word, word_byte}
 use Rattle.rules.specs.Map.{place_at, status_at}
 use Rattle.rules.specs.Time.{watchdog_limit, spin_ticks, rate_period}
@@ -23,7 +23,6 @@ use Rattle.rules.specs.Tachometer.{queue_length, stored_count, judged, is_bad, r
 use Rattle.rules.specs.Speed.{speed_range, speed_refused, speed_of}
 use Rattle.demands.specs.Trials.{Begin, duty-after, Begins, Watched, OneOfSix, Shows, Enabled, Queued, Sees, Reads, after_results, rising, falling, wrapping, starting, TrialsHold}
 use Rattle.rules.proofs.Tests.{flag-le, by-test, choice, all-below, same}
-use Rattle.rules.proofs.Wanted.{wanted-pwm}
 use Rattle.laws.proofs.Valid.{parts}
 use Rattle.laws.proofs.Ramp.{approach, multiples}
 use Rattle.laws.proofs.ChannelTicks.{channel_ticks, ticks-ramp, ticks-due-past, full-not-due}
@@ -62,14 +61,7 @@ module _ (b : Begin) (s : State) (i : ℕ) (c : Begins b s i) where
 
   -- at wait 0 and with the others at 0, nothing holds the channel up
   own : (n : ℕ) → Own s i n
-  own = only-own s i c.exists c.wait (λ k other. wanted-pwm (channel s k) (c.pwm k) ∙ (c.others k other).1)
-
-  -- what is wanted is the target, also once a spin-up has started
-  goal : wanted (channel s i) ≡ b.target
-  goal = wanted-pwm (channel s i) (c.pwm i) ∙ c.target
-
-  goal-full : wanted (with_motion (channel s i) 511 (channel s i).spin 0) ≡ b.target
-  goal-full = wanted-pwm (with_motion (channel s i) 511 (channel s i).spin 0) (c.pwm i) ∙ c.target
+  own = only-own s i c.exists c.wait c.others
 
   sees-duty : (n d pulses : ℕ) → channel_ticks false n s.timer.clock (channel s i) ≡ with_motion (channel s i) d 0 pulses →
       Sees s i (duty-after n d)
@@ -82,23 +74,25 @@ module _ (b : Begin) (s : State) (i : ℕ) (c : Begins b s i) where
       duty_of x = output_duty (conditions_of x) (channel x i)
 
   due-is : spin_up_due (channel s i) ≡ due_from b
-  unfolding spin_up_due
-  due-is = rw (c.ramp, goal, c.spin-up) refl
+  unfolding spin_up_due wanted
+  due-is = rw (c.ramp, c.target, c.spin-up) refl
 
   -- with no spin-up due, and with one
   sees-ramp : due_from b ≡ false → eqb b.rate 0 ≡ false → (n : ℕ) → Sees s i (duty-after n (ramped_from b n))
+  unfolding wanted
   sees-ramp no_spin rate n =
       sees-duty n _ (channel s i).pulses
       (ticks-ramp s.timer.clock (channel s i) c.not-running (due-is ∙ no_spin) n (λ z. eqb-false _ 0 rate (sym c.rate ∙ z))
-      ∙ rw (c.ramp, goal, c.rate, c.falls, c.clock, c.not-running) refl)
+      ∙ rw (c.ramp, c.target, c.rate, c.falls, c.clock, c.not-running) refl)
 
   sees-spin-up : due_from b ≡ true → eqb b.rate 0 ≡ false → (n : ℕ) → spin_ticks b.spin-up + 1 ≤ n → Sees s i (duty-after n (spun_from b n))
+  unfolding wanted
   sees-spin-up spin rate n l =
       let full = with_motion (channel s i) 511 (channel s i).spin 0 in
       sees-duty n _ 0
       (ticks-due-past n s.timer.clock (channel s i) c.not-running (due-is ∙ spin) (omega arith) (rw c.spin-up (omega arith))
       ∙ ticks-ramp _ full c.not-running (full-not-due (channel s i) (channel s i).spin 0) _ (λ z. eqb-false _ 0 rate (sym c.rate ∙ z))
-      ∙ rw (goal-full, c.rate, c.falls, c.spin-up, c.clock, c.not-running) refl)
+      ∙ rw (c.target, c.rate, c.falls, c.spin-up, c.clock, c.not-running) refl)
 
 -- ---- the watchdog
 
@@ -166,7 +160,7 @@ unfolding channel_result result_taken
 taken-stored k most ch count e =
     rw e
     (choice (λ (x : Results). x.count ≡ stored_count count) (not (judged k ch)) _ _ (λ _. refl)
-    (λ _. choice (λ (x : Results). x.count ≡ stored_count count) (is_bad k ch (stored_count count)) _ _ (λ _. refl) (λ _. refl)))
+    (λ _. choice (λ (x : Results). x.count ≡ stored_count count) (is_bad ch (stored_count count)) _ _ (λ _. refl) (λ _. refl)))
 
 stores-word : (s : State) (i count : ℕ) → Enabled s i → Reads (result_of s (i + 1) count).state (0x18 + 2 * i) (count_word (stored_count count))
 unfolding status_byte
@@ -226,14 +220,10 @@ others : (b : Begin) (config n : ℕ) → (n ≡ 0 → ⊥) → let s = example 
 others b config zero other = absurd (other refl)
 others b config (suc n) other = (ap (λ (x : Channel). x.ramp) (all-blank 5 n), ap (λ (x : Channel). x.target) (all-blank 5 n))
 
-in-pwm : (b : Begin) (config : ℕ) → rpm_mode config ≡ false → (n : ℕ) → rpm_mode (channel (example b config 0x45) n).config ≡ false
-in-pwm b config pwm zero = pwm
-in-pwm b config pwm (suc n) = ap (λ (x : Channel). rpm_mode x.config) (all-blank 5 n)
-
 begins-example : (b : Begin) (config : ℕ) → let s = example b config 0x45 in
-    rpm_mode config ≡ false → valid_of s ≡ true → overridden (conditions_of s) (channel s 0) ≡ false → rate_code (channel s 0).dynamics ≡ b.rate →
+    valid_of s ≡ true → overridden (conditions_of s) (channel s 0) ≡ false → rate_code (channel s 0).dynamics ≡ b.rate →
     asymmetric (channel s 0).dynamics ≡ b.falls → spin_code (channel s 0).config ≡ b.spin-up → Begins b s 0
-begins-example b config pwm valid free rate falls spin =
+begins-example b config valid free rate falls spin =
     record {
       is-valid = valid;
       exists = omega arith;
@@ -248,7 +238,6 @@ begins-example b config pwm valid free rate falls spin =
       clock = refl;
       wait = refl;
       others = others b config;
-      pwm = in-pwm b config pwm;
     }
 
 one-of-six-example : (s : State) → valid_of s ≡ true → length s.channels ≡ 6 → OneOfSix s 0
@@ -280,14 +269,14 @@ pub trials-hold : TrialsHold
 unfolding valid_of valid_registers valid_start valid_timer valid_channel valid_pulses conditions_of override_by output_duty judged is_bad spin_ticks watchdog_limit approach ahead clock_at speed_of speed_refused speed_range
 trials-hold =
     ((λ s i c. sees-ramp rising s i c refl refl 37 also sees-ramp rising s i c refl refl 38 also tt)
-    also (example rising 0 0x45, 0, begins-example rising 0 refl refl refl refl refl refl))
+    also (example rising 0 0x45, 0, begins-example rising 0 refl refl refl refl refl))
     also ((λ s i c. sees-ramp falling s i c refl refl 73 also sees-ramp falling s i c refl refl 74 also tt)
-    also (example falling 0 0x45, 0, begins-example falling 0 refl refl refl refl refl refl))
+    also (example falling 0 0x45, 0, begins-example falling 0 refl refl refl refl refl))
     also ((λ s i c. (ap (λ (x : State). x.timer.clock) (off wrapping s i c 2) ∙ rw c.clock refl) also sees-ramp wrapping s i c refl refl 2 also tt)
-    also (example wrapping 0 0x45, 0, begins-example wrapping 0 refl refl refl refl refl refl))
+    also (example wrapping 0 0x45, 0, begins-example wrapping 0 refl refl refl refl refl))
     also (nothing-passes also zero_state)
     also ((λ s i c. sees-spin-up starting s i c refl refl 257 (omega arith) also sees-spin-up starting s i c refl refl 258 (omega arith) also sees-spin-up starting s i c refl refl 568 (omega arith) also tt)
-    also (example starting 0x20 0x45, 0, begins-example starting 0x20 refl refl refl refl refl refl))
+    also (example starting 0x20 0x45, 0, begins-example starting 0x20 refl refl refl refl refl))
     also ((λ s c. not_yet s c also by-then s c) also (watched, record { is-valid = refl; watchdog = refl; idle = refl }))
     also ((λ s i c. shows-word s i 511 c) also (zero_state, 0, record { channel-is = one-of-six-example zero_state refl refl; output-is = refl }))
     also ((λ s i c. shows-word s i 200 c) also (steady, 0, record { channel-is = one-of-six-example steady refl refl; output-is = refl }))

@@ -27,8 +27,7 @@ unfoldable pub totals : ℕ → List ℕ → List ℕ
 totals t [] = []
 totals t (n ∷ elapsed) = (t + n) ∷ totals (t + n) elapsed
 
--- "distance d of at least 1 between ramp value and target"; K9: the wanted duty "stands wherever the one-tick rule and settling formula
--- say target"
+-- "distance d of at least 1 between ramp value and target"
 abbrev pub distance : Channel → ℕ
 distance ch = if ltb ch.ramp (wanted ch) then wanted ch - ch.ramp else ch.ramp - wanted ch
 
@@ -40,27 +39,20 @@ settling_ticks t ch = (t / period_of ch + distance ch) * period_of ch - t
 abbrev pub duty_at : State → ℕ → ℕ
 duty_at s i = output_duty (conditions_of s) (channel s i)
 
--- it is the ramp value, and this duty
-abbrev pub Runs : State → ℕ → ℕ → Type 0
-Runs s i duty = (duty_at s i ≡ duty) × ((channel s i).ramp ≡ duty)
-
--- "in a sound state .. with a rate code other than 0, no spin-up running or due, and no override in force or coming within the tick
--- count": the channel with index i, for so many ticks. "An override .. comes within n ticks of a quiet span exactly when the watchdog is
--- on and not expired and its idle count plus n is at least its limit". K8: the "settling sentence needs a ramp value above 0, or wait and
--- delay code both 0"
-pub record Undisturbed (s : State) (i ticks : ℕ) : Type 0 where
+-- "if in a sound state a duty is not at its target, with a rate code other than 0, no spin-up running or due, and no override in
+-- force or coming within the tick count that the paper's settling formula gives". "An override .. comes within n ticks of a quiet
+-- span exactly when the watchdog is on and not expired and its idle count plus n is at least its limit". K8: the "settling sentence
+-- needs a ramp value above 0, or wait and delay code both 0"
+pub record Settles (s : State) (i : ℕ) : Type 0 where
   pub is-valid : valid_of s ≡ true
+  pub off-target : duty_at s i ≡ wanted (channel s i) → ⊥
   pub has-rate : rate_code (channel s i).dynamics ≡ 0 → ⊥
   pub not-running : (channel s i).spin ≡ 0
   pub not-due : spin_up_due (channel s i) ≡ false
   pub not-overridden : overridden (conditions_of s) (channel s i) ≡ false
-  pub none-coming : (watchdog_code s.registers.control ≡ 0 → ⊥) → s.timer.expired ≡ false → s.timer.idle + ticks < idle_limit s
+  pub none-coming : (watchdog_code s.registers.control ≡ 0 → ⊥) → s.timer.expired ≡ false →
+      s.timer.idle + settling_ticks s.timer.clock (channel s i) < idle_limit s
   pub no-wait : (channel s i).ramp ≡ 0 → (s.timer.wait ≡ 0) × (delay_code s.registers.options ≡ 0)
-
--- "a duty is not at its target", and is left to itself for "the tick count that the paper's settling formula gives"
-pub record Settles (s : State) (i : ℕ) : Type 0 where
-  pub off-target : duty_at s i ≡ wanted (channel s i) → ⊥
-  pub undisturbed : Undisturbed s i (settling_ticks s.timer.clock (channel s i))
 
 -- demand 3, sentence by sentence. K8: it "reads over the new rule"
 pub record AsCounted : Type 0 where

@@ -5,4 +5,3 @@ pub mod Trials
 pub mod InOneGo
 pub mod Pulses
 pub mod OneAtATime
-pub mod HoldSpeed

@@ -2,7 +2,7 @@
 use Rattle.std.specs.Prelude.{ℕ, ◌+◌, ◌*◌, ◌/◌, ◌%◌, ◌≤◌, ◌<◌, ◌≡◌, Bool, true, false, List, [], ◌∷◌, map, leb, length, take}
 use Rattle.demands.specs.Types.{State, Rpm, Tachometer}
 use Rattle.rules.specs.State.{channel}
-use Rattle.rules.specs.Registers.{rpm_mode, spin_code, rate_code, asymmetric, watchdog_code, tachometer_enabled, queue_code}
+use Rattle.rules.specs.Registers.{spin_code, rate_code, asymmetric, watchdog_code, tachometer_enabled, queue_code}
 use Rattle.rules.specs.Duty.{conditions_of}
 use Rattle.rules.specs.Valid.{valid_of}
 use Rattle.rules.specs.Read.{read_of}
@@ -87,8 +87,7 @@ trials =
 -- ---- what a trial begins with, of a state and the channel with index i
 
 -- "Each ramp trial begins with no override in force, no spin-up running and the watchdog off; spin-up code 0 and no asymmetric fall
--- unless said". K8: "The ramp trials begin at wait 0, with every other channel's ramp value and target duty 0". K9: they "have every
--- channel in PWM mode"
+-- unless said". K8: "The ramp trials begin at wait 0, with every other channel's ramp value and target duty 0"
 pub record Begins (b : Begin) (s : State) (i : ℕ) : Type 0 where
   pub is-valid : valid_of s ≡ true
   pub exists : i < length s.channels
@@ -103,7 +102,6 @@ pub record Begins (b : Begin) (s : State) (i : ℕ) : Type 0 where
   pub clock : s.timer.clock ≡ b.clock
   pub wait : s.timer.wait ≡ 0
   pub others : (n : ℕ) → (n ≡ i → ⊥) → ((channel s n).ramp ≡ 0) × ((channel s n).target ≡ 0)
-  pub pwm : (n : ℕ) → rpm_mode (channel s n).config ≡ false
 
 pub record Watched (code : ℕ) (s : State) : Type 0 where
   pub is-valid : valid_of s ≡ true
@@ -131,7 +129,7 @@ pub record Queued (code : ℕ) (results : List Bool) (s : State) (i : ℕ) (coun
   pub queue-code : queue_code s.registers.options ≡ code
   pub no-fault : (channel s i).fault ≡ false
   pub no-queue : (channel s i).queue ≡ 0
-  pub bad-or-good : map (λ count. is_bad (conditions_of s) (channel s i) (stored_count count)) counts ≡ results
+  pub bad-or-good : map (λ count. is_bad (channel s i) (stored_count count)) counts ≡ results
 
 -- ---- what a trial says
 

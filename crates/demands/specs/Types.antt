@@ -9,8 +9,7 @@ pub use Rattle.rules.specs.declared.StatusRegister.{StatusRegister}
 pub use Rattle.rules.specs.declared.StatusRegister.TheVariants.{Count, Output}
 pub use Rattle.rules.specs.declared.WordRegister.{WordRegister}
 pub use Rattle.rules.specs.declared.WordRegister.TheVariants.{Target, TargetCount}
-pub use Rattle.rules.specs.declared.ChannelRegister.TheVariants.{Config}
-pub use Rattle.rules.specs.declared.Place.TheVariants.{ReadOnly, Own}
+pub use Rattle.rules.specs.declared.Place.TheVariants.{ReadOnly}
 pub use Rattle.rules.specs.declared.Answer.{Answer}
 pub use Rattle.rules.specs.declared.ReadAnswer.{ReadAnswer}
 pub use Rattle.rules.specs.declared.Speed.TheVariants.{Rpm}

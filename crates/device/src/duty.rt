@@ -4,7 +4,7 @@ ghost use Rattle.rules.specs.Basics.{flag};
 ghost use Rattle.rules.specs.Tick.{wanted, overridden};
 ghost use Rattle.rules.specs.Duty.{fault_byte, conditions_of, failed_fan, override_by, override_of, own_duty, output_duty};
 
-use registers::fields::{failed_fan_option, monitor_only, rpm_mode, standby};
+use registers::fields::{failed_fan_option, monitor_only, standby};
 use rules::{Channel, Conditions, Override, State};
 
 pub fn flag(on: bool) -> u8
@@ -118,21 +118,9 @@ pub fn output_duty(conditions: Conditions, channel: Channel) -> u16
     }
 }
 
-// The duty that a channel ramps to: in RPM mode full speed or none, until its count is within the window around the target count.
+// The duty that a channel ramps to.
 pub fn wanted(channel: Channel) -> u16
     ensures { result ≡ wanted channel }
 {
-    if !rpm_mode(channel.config) {
-        return channel.target;
-    }
-    let count = channel.count as u32;
-    let target = channel.target_count as u32;
-    let window = channel.window as u32;
-    if target + window < count {
-        return 511;
-    }
-    if count + window < target {
-        return 0;
-    }
-    channel.ramp
+    channel.target
 }

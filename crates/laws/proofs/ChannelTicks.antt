@@ -1,7 +1,7 @@
 -- Many ticks of one channel: what the one-tick rule leaves, by closed forms.
 use Prim.Native.Nat.{ℕ, zero, suc, ◌+◌, ◌-◌, ◌%◌, ◌^◌, ◌≤◌, ◌<◌}
 use mathlib.Core.Path.{◌≡◌, refl, sym, ◌∙◌, ap}
-use mathlib.Core.Bool.{Bool, true, false, not, ◌&&◌}
+use mathlib.Core.Bool.{Bool, true, false, ◌&&◌}
 use native.Mathlib.Nat.{add-zero, zero-add, suc-add, sub-zero}
 use native.Mathlib.Omega.{arith}
 use lib.Dec.{ltb, eqb}
@@ -10,10 +10,10 @@ use borrow.Author.Tests.{ltb-true, eqb-true, eqb-false, lt-ltb, le-ltb, eq-eqb, 
 use Rattle.laws.proofs.Types.{Channel}
 use Rattle.rules.specs.Basics.{if◌then◌else◌}
 use Rattle.rules.specs.State.{with_motion, with_ramp}
-use Rattle.rules.specs.Registers.{rpm_mode, spin_code, rate_code, asymmetric, target_count}
+use Rattle.rules.specs.Registers.{spin_code, rate_code, asymmetric}
 use Rattle.rules.specs.Time.{spin_ticks, rate_period}
 use Rattle.rules.specs.Tick.{wanted, period_of, spin_up_due, toward, spin_left, channel_tick}
-use Rattle.rules.proofs.Tests.{and_left, and_right, by-test, choice}
+use Rattle.rules.proofs.Tests.{by-test}
 use Rattle.laws.proofs.Ramp.{approach, multiples, approach-none, approach-there, toward-there, approach-zero, approach-side, multiples-grow, multiples-none, step-on-the-way, wrap-keeps-remainder}
 
 -- step 3 of the rule for one channel, m ticks long, at the clocks t + 1, t + 2, .., each a 32-bit number
@@ -86,56 +86,14 @@ period-wrap ch x = let l = period-log ch in rw l.2 (wrap-keeps-remainder l.0 x l
 
 -- ---- a channel that neither spins up nor is due to
 
--- what a channel wants stays as it was wherever a ramp value that it holds stays
-pub wanted-kept : (ch : Channel) (ramp spin pulses : ℕ) → (wanted ch ≡ ch.ramp → ramp ≡ ch.ramp) →
-    wanted (with_motion ch ramp spin pulses) ≡ wanted ch
-unfolding wanted
-wanted-kept ch ramp spin pulses h =
-    by-test (not (rpm_mode ch.config)) (λ p. rw p refl) λ p.
-    by-test (ltb (target_count ch + ch.window) ch.count) (λ a. rw (p, a) refl) λ a.
-    by-test (ltb (ch.count + ch.window) (target_count ch)) (λ b. rw (p, a, b) refl) λ b.
-    rw (p, a, b) (h (rw (p, a, b) refl))
-
--- while it is approached, and once it is reached
+-- what a channel moves to stays as it was while it moves there, and once it is there
 pub wanted-on-the-way : (ch : Channel) (n : ℕ) → wanted (with_ramp ch (approach ch.ramp (wanted ch) n)) ≡ wanted ch
-wanted-on-the-way ch n =
-    wanted-kept ch _ ch.spin ch.pulses
-    (λ e. approach-there ch.ramp (wanted ch) 0 n (omega arith) (approach-none ch.ramp (wanted ch) ∙ sym e) ∙ e)
+unfolding wanted
+wanted-on-the-way ch n = refl
 
 pub wanted-there : (ch : Channel) → wanted (with_ramp ch (wanted ch)) ≡ wanted ch
-wanted-there ch = wanted-kept ch (wanted ch) ch.spin ch.pulses (λ e. e)
-
--- a spin-up is not due where the ramp value is held, so its start changes nothing of it
-due-apart : (ch : Channel) → spin_up_due ch ≡ true → wanted ch ≡ ch.ramp → ⊥
-unfolding spin_up_due
-due-apart ch d e =
-    let two = and_left (eqb ch.ramp 0 && ltb 0 (wanted ch)) _ d in
-    omega (arith, eqb-true ch.ramp 0 (and_left _ _ two), ltb-true 0 (wanted ch) (and_right (eqb ch.ramp 0) _ two))
-
-pub wanted-started : (ch : Channel) (spin pulses : ℕ) → spin_up_due ch ≡ true → wanted (with_motion ch 511 spin pulses) ≡ wanted ch
-wanted-started ch spin pulses d = wanted-kept ch 511 spin pulses (λ e. absurd (due-apart ch d e))
-
--- a tick leaves a ramp value that is held, and so it leaves what is wanted
-toward-held : (x goal : ℕ) → goal ≡ x → toward x goal ≡ x
-unfolding toward
-toward-held x goal e = rw (e, le-ltb x x (omega arith)) refl
-
-pub hold-tick : (held : Bool) (c : ℕ) (ch : Channel) → wanted ch ≡ ch.ramp → (channel_tick held c ch).ramp ≡ ch.ramp
-unfolding channel_tick
-hold-tick true c ch e = refl
-hold-tick false c ch e =
-    choice Same (ltb 0 ch.spin) _ _ (λ _. refl) λ _.
-    choice Same (spin_up_due ch) _ _ (λ d. absurd (due-apart ch d e)) λ _.
-    choice Same (eqb (rate_code ch.dynamics) 0) _ _ (λ _. e) λ _.
-    choice Same (eqb (c % period_of ch) 0) _ _ (λ _. toward-held ch.ramp (wanted ch) e) (λ _. refl)
-  where
-    Same : Channel → Type 0
-    Same x = x.ramp ≡ ch.ramp
-
-pub wanted-tick : (held : Bool) (c : ℕ) (ch : Channel) → wanted (channel_tick held c ch) ≡ wanted ch
-wanted-tick held c ch =
-    let m = tick-moves held c ch in
-    ap wanted m.3 ∙ wanted-kept ch m.0 m.1 m.2 (λ e. sym (ap (λ (x : Channel). x.ramp) m.3) ∙ hold-tick held c ch e)
+unfolding wanted
+wanted-there ch = refl
 
 -- spin-up does not come due on the way
 not-due : (ch : Channel) (q : ℕ) → wanted (with_ramp ch q) ≡ wanted ch → spin_up_due ch ≡ false →

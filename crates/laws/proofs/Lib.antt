@@ -22,4 +22,3 @@ pub mod Waiting
 pub mod Rows
 pub mod OwnWay
 pub mod StateTicks
-pub mod EveryTick

@@ -136,17 +136,20 @@ module _ (p : ℕ) (pos : 0 < p) where
       (λ e. rw (e, multiples-hit t k (eqb-true _ _ e)) (approach-more x goal (multiples p t k)))
       (λ e. rw (e, multiples-miss t k (eqb-false _ _ e)))
 
-  -- the settling formula: after so many ticks there are at least d multiples, and after fewer there are fewer
-  module _ (t d k : ℕ) where
-    pub multiples-settled : (t / p + d) * p - t ≤ k → d ≤ multiples p t k
-    multiples-settled h =
-        let l : (t / p + d) * p ≤ t + k = omega arith in
-        omega (arith, (le-div_iff_mul-le pos).1 l)
+  -- the settling formula: after so many ticks there are d multiples, and after fewer there are fewer
+  module _ (t d : ℕ) (far : 0 < d) where
+    reach : t + ((t / p + d) * p - t) ≡ (t / p + d) * p
+    reach =
+        let one : 1 * p ≤ d * p = mul-le-mul_right p far in
+        omega (arith, add-mul (t / p) d p, lt-div-mul-add {a = t} pos, one)
 
-    pub multiples-sooner : k < (t / p + d) * p - t → multiples p t k < d
-    multiples-sooner h =
-        let l : t + k < (t / p + d) * p = omega arith in
-        omega (arith, (div-lt_iff_lt-mul pos).1 l, multiples-from t k)
+    pub multiples-settled : multiples p t ((t / p + d) * p - t) ≡ d
+    multiples-settled = omega (arith, ap (λ n. n / p) reach ∙ mul-div_cancel (t / p + d) pos)
+
+    pub multiples-sooner : (k : ℕ) → k < (t / p + d) * p - t → multiples p t k < d
+    multiples-sooner k h =
+        let l : t + k < (t / p + d) * p = omega (arith, reach) in
+        omega (arith, (div-lt_iff_lt-mul pos).1 l)
 
 pub multiples-none : (p t : ℕ) → multiples p t 0 ≡ 0
 multiples-none p t = rw add-zero (omega arith)

@@ -47,7 +47,7 @@ taken-valid in_standby k needed ch count p =
       count = ltb-true _ 2048 (and_left _ _ p.results);
       queue = leb-true _ 6 (and_right (ltb ch.count 2048) _ p.results);
     } in
-    let after = taken-in-range (tachometer_enabled ch.config) (judged k ch) (is_bad k ch (stored_count count)) needed count (results_of ch) before in
+    let after = taken-in-range (tachometer_enabled ch.config) (judged k ch) (is_bad ch (stored_count count)) needed count (results_of ch) before in
     record {
       settings = p.settings;
       results = and_both _ _ (lt-ltb _ 2048 after.count) (le-leb _ 6 after.queue);

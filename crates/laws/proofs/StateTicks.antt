@@ -1,19 +1,19 @@
 -- Many ticks of the whole state: what the one-tick rule leaves, by closed forms.
 use Prim.Native.Nat.{ℕ, zero, suc, ◌+◌, ◌-◌, ◌%◌, ◌^◌, ◌<◌}
 use mathlib.Core.Path.{◌≡◌, refl, sym, ◌∙◌, ap, ap₂}
-use mathlib.Core.Bool.{Bool, true, false, not, ◌&&◌, ◌||◌, false≢true, or-true, and-false}
+use mathlib.Core.Bool.{Bool, true, false, not, ◌||◌, false≢true, or-true}
 use native.Mathlib.Nat.{add-zero, mod-lt}
 use native.Mathlib.Omega.{arith}
 use lib.Dec.{eqb, lit<}
 use borrow.Author.Tests.{ltb-true, le-leb, lt-leb}
-use Rattle.laws.proofs.Types.{Channel, State, Conditions, Override}
+use Rattle.laws.proofs.Types.{Channel, State, Conditions}
 use Rattle.rules.specs.Basics.{if◌then◌else◌}
 use Rattle.rules.specs.State.{timer, with_channels, with_timer}
 use Rattle.rules.specs.Registers.{monitor_only, watchdog_code}
 use Rattle.rules.specs.Duty.{conditions_of, override_by}
 use Rattle.rules.specs.Valid.{valid_of}
-use Rattle.rules.specs.Tick.{in_force, overridden, idle_limit, timer_tick, delay_of, tick, iterate}
-use Rattle.rules.proofs.Tests.{by-test, choice}
+use Rattle.rules.specs.Tick.{overridden, idle_limit, timer_tick, delay_of, tick, iterate}
+use Rattle.rules.proofs.Tests.{by-test}
 use Rattle.laws.proofs.Valid.{parts, valid-watchdog}
 use Rattle.laws.proofs.Iterate.{iterate-first, iterate-last, iterate-add}
 use Rattle.laws.proofs.Rows.{Row, row_tick, row_ticks, rows_last, rows-fault, row-frozen, rows-frozen}
@@ -49,26 +49,6 @@ expired-overrides k ch x =
     (λ m. by-test k.pin
     (λ p. by-test k.standby (λ b. rw (m, p, b) refl) (λ b. rw (m, p, b, x) refl))
     (λ p. rw (m, p) refl))
-
--- one that is in force on a channel which is neither monitor only nor failed is in force on every channel
-pub all-overridden : (k : Conditions) → in_force (override_by k false false) ≡ true → (ch : Channel) → overridden k ch ≡ true
-unfolding override_by
-all-overridden k e ch = on (monitor_only ch.config) ch.fault
-  where
-    Forced : Override → Type 0
-    Forced o = in_force o ≡ true
-
-    on : (monitor fault : Bool) → Forced (override_by k monitor fault)
-    on true fault = refl
-    on false false = e
-    on false true =
-        choice Forced (not k.pin) _ _ (λ _. refl) λ p.
-        choice Forced k.standby _ _ (λ _. refl) λ b.
-        choice Forced k.expired _ _ (λ _. refl) λ x.
-        choice Forced (eqb k.option 0 && true) _ _ (λ _. refl) λ _.
-        choice Forced (eqb k.option 2 && true) _ _ (λ _. refl) λ _.
-        choice Forced (eqb k.option 3 && k.faulty) _ _ (λ _. refl) λ f.
-        rw (p, b, x, f, and-false, and-false) at e
 
 -- ---- the state, short of the watchdog's limit
 

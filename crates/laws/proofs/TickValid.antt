@@ -1,14 +1,14 @@
 -- A tick keeps a valid state valid.
 use Prim.Native.Nat.{ℕ, zero, suc, ◌+◌, ◌-◌, ◌%◌, ◌≤◌, ◌<◌}
 use mathlib.Core.Path.{◌≡◌, refl, sym, ◌∙◌}
-use mathlib.Core.Bool.{Bool, true, false, not, ◌||◌}
+use mathlib.Core.Bool.{Bool, true, false, ◌||◌}
 use native.Mathlib.Omega.{arith}
 use lib.Dec.{leb, ltb, eqb, lit<}
 use borrow.Author.Tests.{ltb-true, ltb-false, leb-true, leb-false, eqb-true, eqb-false, lt-ltb, le-leb, eq-eqb}
 use Rattle.laws.proofs.Types.{Channel, Timer, State, Conditions}
 use Rattle.rules.specs.Basics.{◌implies◌}
 use Rattle.rules.specs.State.{with_wait, with_motion, with_timer}
-use Rattle.rules.specs.Registers.{rpm_mode, monitor_only, spin_code, rate_code, watchdog_code, delay_code, target_count}
+use Rattle.rules.specs.Registers.{monitor_only, spin_code, rate_code, watchdog_code, delay_code}
 use Rattle.rules.specs.Time.{watchdog_limit, spin_ticks, start_delay, ends_early}
 use Rattle.rules.specs.Duty.{conditions_of, override_by}
 use Rattle.rules.specs.Valid.{valid_motion, valid_channel, valid_pulses, valid_timer, valid_of}
@@ -81,12 +81,9 @@ module _ (c : ℕ) (ch : Channel) (parts : ChannelParts false ch) (controlled : 
   now : Moving ch.ramp ch.spin
   now = moving (false || monitor_only ch.config) ch parts.motion
 
-  wanted-lt : wanted ch < 512
+  target-lt : wanted ch < 512
   unfolding wanted
-  wanted-lt =
-      choice (λ n. n < 512) (not (rpm_mode ch.config)) _ _ (λ _. ltb-true _ 512 (settings-parts ch parts.settings).target) λ _.
-      choice (λ n. n < 512) (ltb (target_count ch + ch.window) ch.count) _ _ (λ _. lit< tt) λ _.
-      choice (λ n. n < 512) (ltb (ch.count + ch.window) (target_count ch)) _ _ (λ _. lit< tt) (λ _. now.low)
+  target-lt = ltb-true _ 512 (settings-parts ch parts.settings).target
 
   moved-valid : (r p q : ℕ) → Moving r p → valid_channel false (with_motion ch r p q) ≡ true
   moved-valid r p q m =
@@ -108,10 +105,10 @@ module _ (c : ℕ) (ch : Channel) (parts : ChannelParts false ch) (controlled : 
       (λ d. rw (e, d) (moved-valid 511 (spin_ticks (spin_code ch.config)) 0 (record { low = lit< tt; short = spin-ticks-le; full = λ l. refl })))
       (λ d. by-test (eqb (rate_code ch.dynamics) 0)
       (λ r. rw (e, d, r) (moved-valid (wanted ch) ch.spin ch.pulses
-      (record { low = wanted-lt; short = now.short; full = λ l. absurd (idle l) })))
+      (record { low = target-lt; short = now.short; full = λ l. absurd (idle l) })))
       (λ r. by-test (eqb (c % period_of ch) 0)
       (λ q. rw (e, d, r, q) (moved-valid (toward ch.ramp (wanted ch)) ch.spin ch.pulses
-      (record { low = toward-lt ch.ramp (wanted ch) 512 now.low wanted-lt; short = now.short; full = λ l. absurd (idle l) })))
+      (record { low = toward-lt ch.ramp (wanted ch) 512 now.low target-lt; short = now.short; full = λ l. absurd (idle l) })))
       (λ q. rw (e, d, r, q) (valid-of-channel-parts false ch parts)))))
 
 channel-tick-valid : (k : Conditions) (c : ℕ) (ch : Channel) → valid_channel k.standby ch ≡ true →

@@ -73,7 +73,7 @@ module _ (rule : Channel → Channel) (delay : ℕ) where
   turns-keep test kept wait (ch ∷ chs) e =
       let now = and_left (test ch) (every test chs) e in
       and_both _ _ (turn-either rule ch (λ x. test x ≡ true) now (kept ch now) wait)
-      (turns-keep test kept _ chs (and_right (test ch) (every test chs) e))
+      (turns-keep test kept (wait_after rule delay wait ch) chs (and_right (test ch) (every test chs) e))
 
   -- a flag of a channel that the rule leaves
   pub turns_same : (told : Channel → Bool) → ((ch : Channel) → told (rule ch) ≡ told ch) →
@@ -81,12 +81,12 @@ module _ (rule : Channel → Channel) (delay : ℕ) where
   unfolding channels_tick
   turns_same told same wait [] = refl
   turns_same told same wait (ch ∷ chs) =
-      ap₂ (λ a b. a || b) (turn-either rule ch (λ x. told x ≡ told ch) refl (same ch) wait) (turns_same told same _ chs)
+      ap₂ (λ a b. a || b) (turn-either rule ch (λ x. told x ≡ told ch) refl (same ch) wait) (turns_same told same (wait_after rule delay wait ch) chs)
 
   pub turns-long : (wait : ℕ) (chs : List Channel) → length (channels_tick rule delay wait chs) ≡ length chs
   unfolding channels_tick
   turns-long wait [] = refl
-  turns-long wait (ch ∷ chs) = ap (λ n. suc n) (turns-long _ chs)
+  turns-long wait (ch ∷ chs) = ap (λ n. suc n) (turns-long (wait_after rule delay wait ch) chs)
 
   -- a rule that changes nothing
   module _ (idle : (ch : Channel) → rule ch ≡ ch) where
@@ -99,7 +99,7 @@ module _ (rule : Channel → Channel) (delay : ℕ) where
     pub turns-idle : (wait : ℕ) (chs : List Channel) → channels_tick rule delay wait chs ≡ chs
     unfolding channels_tick
     turns-idle wait [] = refl
-    turns-idle wait (ch ∷ chs) = ap₂ (λ x xs. x ∷ xs) (turn-stays rule ch (idle-stays ch) wait ∙ idle ch) (turns-idle _ chs)
+    turns-idle wait (ch ∷ chs) = ap₂ (λ x xs. x ∷ xs) (turn-stays rule ch (idle-stays ch) wait ∙ idle ch) (turns-idle (wait_after rule delay wait ch) chs)
 
     pub wait-idle : (wait : ℕ) (chs : List Channel) → wait_tick rule delay wait chs ≡ wait
     unfolding wait_tick
@@ -111,7 +111,7 @@ module _ (rule : Channel → Channel) (delay : ℕ) where
   pub wait-below : (most : ℕ) → delay ≤ most → (wait : ℕ) (chs : List Channel) → wait ≤ most → wait_tick rule delay wait chs ≤ most
   unfolding wait_tick
   wait-below most d wait [] w = w
-  wait-below most d wait (ch ∷ chs) w = wait-below most d _ chs (wait-either rule ch (λ n. n ≤ most) delay wait d w)
+  wait-below most d wait (ch ∷ chs) w = wait-below most d (wait_after rule delay wait ch) chs (wait-either rule ch (λ n. n ≤ most) delay wait d w)
 
   pub turns-keep-wait : (wait : ℕ) (chs : List Channel) → wait ≤ wait_tick rule delay wait chs
   unfolding wait_tick

@@ -18,7 +18,7 @@ use Rattle.rules.specs.Tick.{wanted, period_of, spin_up_due, overridden, toward,
 use Rattle.rules.proofs.Tests.{and_left, and_right, by-test, choice, every-weaker}
 use Rattle.laws.proofs.Valid.{channel-parts, four}
 use Rattle.laws.proofs.Ramp.{wrap-keeps-remainder}
-use Rattle.laws.proofs.ChannelTicks.{channel_ticks, ticks-held, tick-moves, ticks-last, ticks-move, wanted-tick}
+use Rattle.laws.proofs.ChannelTicks.{channel_ticks, tick-moves, ticks-last, ticks-move, wanted-there}
 
 -- at ramp value 0 below its target, with no override in force: it leaves when its period and the shared wait let it
 unfoldable pub waits : Conditions → Channel → Bool
@@ -95,19 +95,13 @@ due-not ch z d =
     let l = ltb-true 0 (wanted ch) (and_right (eqb ch.ramp 0) _ (and_left (eqb ch.ramp 0 && ltb 0 (wanted ch)) _ d)) in
     omega arith
 
-low-away : (c : ℕ) (ch : Channel) → Away ch → (channel_tick false c ch).ramp ≡ 0 → wanted ch ≡ 0
-unfolding channel_tick
-low-away c ch a =
-    choice Low (ltb 0 ch.spin) _ _ (λ _. a) λ _.
-    choice Low (spin_up_due ch) _ _ (λ _ e. absurd (omega arith)) λ _.
-    choice Low (eqb (rate_code ch.dynamics) 0) _ _ (λ _ e. e) λ _.
-    choice Low (eqb (c % period_of ch) 0) _ _ (λ _. toward_zero ch.ramp (wanted ch) a) (λ _. a)
-  where
-    Low : Channel → Type 0
-    Low x = x.ramp ≡ 0 → wanted ch ≡ 0
-
 free-away : (c : ℕ) (ch : Channel) → Away ch → Away (channel_tick false c ch)
-free-away c ch a z = wanted-tick false c ch ∙ low-away c ch a z
+unfolding channel_tick wanted
+free-away c ch a =
+    choice Away (ltb 0 ch.spin) _ _ (λ _. a) λ _.
+    choice Away (spin_up_due ch) _ _ (λ _ e. absurd (omega arith)) λ _.
+    choice Away (eqb (rate_code ch.dynamics) 0) _ _ (λ _ e. wanted-there ch ∙ e) λ _.
+    choice Away (eqb (c % period_of ch) 0) _ _ (λ _. toward_zero ch.ramp (wanted ch) a) (λ _. a)
 
 stays-zero : (c : ℕ) (ch : Channel) → ch.ramp ≡ 0 → wanted ch ≡ 0 → (channel_tick false c ch).ramp ≡ 0
 unfolding channel_tick
@@ -275,16 +269,6 @@ module _ (k : Conditions) (m t : ℕ) where
   stood-at (x ∷ skips) [] i h l = absurd (omega arith)
   stood-at (x ∷ skips) (ch ∷ chs) zero h l = refl
   stood-at (x ∷ skips) (ch ∷ chs) (suc i) h l = stood-at skips chs i (omega arith) (omega arith)
-
-  -- where an override is in force on each
-  pub stood-held : ((ch : Channel) → overridden k ch ≡ true) → (skips : List ℕ) (chs : List Channel) → length skips ≡ length chs →
-      stood k m t skips chs ≡ chs
-  stood-held held [] [] e = refl
-  stood-held held [] (ch ∷ chs) e = absurd (omega arith)
-  stood-held held (x ∷ skips) [] e = refl
-  stood-held held (x ∷ skips) (ch ∷ chs) e =
-      ap₂ (λ y ys. y ∷ ys)
-      (ap (λ b. channel_ticks b (m - x) (t + x) ch) (held ch) ∙ ticks-held (m - x) (t + x) ch) (stood-held held skips chs (omega arith))
 
   -- where none is skipped
   pub stood-none : (chs : List Channel) → stood k m t (replicate (length chs) 0) chs ≡ map (alone k m t) chs

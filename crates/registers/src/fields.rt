@@ -1,6 +1,6 @@
 // The fields of the registers, each decoded from the byte that its register reads.
 ghost use Rattle.std.specs.Prelude.{◌≡◌};
-ghost use Rattle.rules.specs.Registers.{standby, watchdog_code, rpm_mode, spin_code, monitor_only, tachometer_enabled, range_code, rate_code, asymmetric, delay_code, failed_fan_option, queue_code};
+ghost use Rattle.rules.specs.Registers.{standby, watchdog_code, spin_code, monitor_only, tachometer_enabled, range_code, rate_code, asymmetric, delay_code, failed_fan_option, queue_code};
 
 // 00h.
 pub fn standby(control: u8) -> bool
@@ -16,12 +16,6 @@ pub fn watchdog_code(control: u8) -> u8
 }
 
 // 02h to 07h.
-pub fn rpm_mode(config: u8) -> bool
-    ensures { result ≡ rpm_mode config }
-{
-    config / 128 % 2 == 1
-}
-
 pub fn spin_code(config: u8) -> u8
     ensures { result ≡ spin_code config }
 {

@@ -41,9 +41,9 @@ pub fn options_kept(byte: u8) -> u8
     byte / 32 % 8 * 32 + byte % 16
 }
 
-// A fan configuration with locked rotor or the PWM pin as a tachometer, which this box does not take.
+// A fan configuration with RPM mode, locked rotor or the PWM pin as a tachometer, which this box does not take.
 pub fn config_refused(byte: u8) -> bool
     ensures { result ≡ config_refused byte }
 {
-    (byte / 4 % 2 == 1) | (byte % 2 == 1)
+    (byte / 128 % 2 == 1) | (byte / 4 % 2 == 1) | (byte % 2 == 1)
 }

@@ -21,7 +21,7 @@ not_carried = 2
 abbrev pub read_only : ℕ
 read_only = 3
 
--- "fan configuration byte with bit 7, 2 or 0 set". K9: "4 no longer for bit 7"
+-- "fan configuration byte with bit 7, 2 or 0 set"
 abbrev pub config_not_allowed : ℕ
 config_not_allowed = 4
 

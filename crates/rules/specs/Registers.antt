@@ -12,10 +12,7 @@ standby control = bit 7 control
 abbrev pub watchdog_code : ℕ → ℕ
 watchdog_code control = bits 2 1 control
 
--- 02h to 07h: 7 RPM mode, which K9 carries, 6:5 spin-up code, 4 monitor only, 3 tachometer enabled
-abbrev pub rpm_mode : ℕ → Bool
-rpm_mode config = bit 7 config
-
+-- 02h to 07h: 6:5 spin-up code, 4 monitor only, 3 tachometer enabled
 abbrev pub spin_code : ℕ → ℕ
 spin_code config = bits 6 5 config
 
@@ -71,6 +68,6 @@ mask_kept b = keep 5 0 b
 abbrev pub options_kept : ℕ → ℕ
 options_kept b = keep 7 5 b + keep 3 0 b
 
--- refusal 4: "fan configuration byte with bit 7, 2 or 0 set" (2 is locked rotor, 0 the PWM pin used as tachometer). K9: "4 no longer for bit 7"
+-- refusal 4: "fan configuration byte with bit 7, 2 or 0 set" (RPM mode, locked rotor, PWM pin used as tachometer)
 abbrev pub config_refused : ℕ → Bool
-config_refused b = bit 2 b || bit 0 b
+config_refused b = bit 7 b || bit 2 b || bit 0 b

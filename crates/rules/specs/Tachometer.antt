@@ -1,9 +1,9 @@
 -- The call that takes a tachometer result: "channel, count of 8,192 Hz clocks".
-use Rattle.std.specs.Prelude.{ℕ, ◌+◌, ◌-◌, ◌*◌, min, Bool, not, ◌&&◌, ◌||◌, [], ◌∷◌, leb, ltb, eqb, get_or, set}
+use Rattle.std.specs.Prelude.{ℕ, ◌+◌, ◌-◌, min, Bool, not, ◌&&◌, ◌||◌, [], ◌∷◌, leb, ltb, eqb, get_or, set}
 use Rattle.rules.specs.Types.{Channel, Results, State, Conditions, Answer}
 use Rattle.rules.specs.Basics.{if◌then◌else◌}
 use Rattle.rules.specs.State.{channel, results, results_of, with_results, with_channels}
-use Rattle.rules.specs.Registers.{rpm_mode, monitor_only, tachometer_enabled, queue_code, target_count}
+use Rattle.rules.specs.Registers.{monitor_only, tachometer_enabled, queue_code, target_count}
 use Rattle.rules.specs.Duty.{conditions_of, output_duty}
 use Rattle.rules.specs.Valid.{if_valid}
 use Rattle.rules.specs.Calls.{if_channel}
@@ -21,13 +21,9 @@ stored_count count = min count 2047
 unfoldable pub judged : Conditions → Channel → Bool
 judged k ch = not k.standby && eqb ch.spin 0 && (monitor_only ch.config || ltb 0 (output_duty k ch))
 
--- "Judged bad when the stored count exceeds the target count", and since K3 "a stored count of 2,047 is bad for any target". K9, in RPM
--- mode: "At output 511 a result is judged bad in this mode exactly when the stored count is above twice the target count (the rule of source
--- document 001) or is 2,047; at any other output it is good, K3's 2,047 too"
-unfoldable pub is_bad : Conditions → Channel → ℕ → Bool
-is_bad k ch stored =
-    if not (rpm_mode ch.config) then eqb stored 2047 || ltb (target_count ch) stored
-    else eqb (output_duty k ch) 511 && (ltb (2 * target_count ch) stored || eqb stored 2047)
+-- since K3 "a stored count of 2,047 is bad for any target"; any other is "Judged bad when the stored count exceeds the target count"
+unfoldable pub is_bad : Channel → ℕ → Bool
+is_bad ch stored = eqb stored 2047 || ltb (target_count ch) stored
 
 -- "the channel's queue count goes up, to at most 6, and if it is then at least the queue length .. the fault bit is set"
 abbrev pub bad_result : ℕ → ℕ → Results → Results
@@ -55,7 +51,7 @@ result_taken enabled is_judged bad needed stored r =
 unfoldable pub channel_result : Conditions → ℕ → Channel → ℕ → Channel
 channel_result k needed ch count =
     let stored = stored_count count in
-    with_results ch (result_taken (tachometer_enabled ch.config) (judged k ch) (is_bad k ch stored) needed stored (results_of ch))
+    with_results ch (result_taken (tachometer_enabled ch.config) (judged k ch) (is_bad ch stored) needed stored (results_of ch))
 
 -- a result of the channel with index i, judged by the state before it
 abbrev pub with_result : State → ℕ → ℕ → State

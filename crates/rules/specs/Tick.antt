@@ -1,23 +1,17 @@
 -- "One tick", and the call that passes ticks.
-use Rattle.std.specs.Prelude.{ℕ, zero, suc, ◌+◌, ◌-◌, ◌%◌, Bool, true, false, not, ◌&&◌, ◌||◌, List, [], ◌∷◌, leb, ltb, eqb}
+use Rattle.std.specs.Prelude.{ℕ, zero, suc, ◌+◌, ◌-◌, ◌%◌, Bool, true, false, ◌&&◌, ◌||◌, List, [], ◌∷◌, leb, ltb, eqb}
 use Rattle.rules.specs.Types.{Channel, Timer, State, Conditions, Override, None, Duty, Answer}
 use Rattle.rules.specs.Basics.{if◌then◌else◌}
 use Rattle.rules.specs.State.{timer, with_wait, with_motion, with_ramp, with_channels, with_timer}
-use Rattle.rules.specs.Registers.{rpm_mode, spin_code, rate_code, asymmetric, watchdog_code, delay_code, target_count}
+use Rattle.rules.specs.Registers.{spin_code, rate_code, asymmetric, watchdog_code, delay_code}
 use Rattle.rules.specs.Time.{clock_after, watchdog_limit, spin_ticks, start_delay, rate_period}
 use Rattle.rules.specs.Duty.{conditions_of, override_of}
 use Rattle.rules.specs.Valid.{if_valid}
 use Rattle.rules.specs.Calls.{accepted, answer}
 
--- the duty that a channel's ramp value moves to: its target duty. K9: in RPM mode "a channel's wanted duty is 511 if its stored count is
--- above target count plus window register, 0 if the count plus window is below the target count, else its present ramp value. The wanted
--- duty stands wherever the one-tick rule and settling formula say target"
+-- the duty that a channel's ramp value moves to: its target duty
 unfoldable pub wanted : Channel → ℕ
-wanted ch =
-    if not (rpm_mode ch.config) then ch.target
-    else if ltb (target_count ch + ch.window) ch.count then 511
-    else if ltb (ch.count + ch.window) (target_count ch) then 0
-    else ch.ramp
+wanted ch = ch.target
 
 -- the period in the direction of the target
 abbrev pub period_of : Channel → ℕ

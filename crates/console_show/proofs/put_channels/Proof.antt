@@ -8,7 +8,7 @@ use Rattle.console_show.proofs.put_channels.Statement.{statement}
 use Rattle.console_show.proofs.put_channels.Tie as tie
 
 abbrev invariant-loop : tie.invariant-loop
-invariant-loop out₀ at conditions wait channels next₀ i₀ out next i = Frame (154 * i) next₀ out₀ out next × (i ≤ 6)
+invariant-loop out₀ at conditions wait channels next₀ i₀ out next i = Frame (190 * i) next₀ out₀ out next × (i ≤ 6)
 
 abbrev decreases-loop : tie.decreases-loop
 decreases-loop out₀ at conditions wait channels next₀ i₀ out next i = 6 - i

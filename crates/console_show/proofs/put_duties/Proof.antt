@@ -11,14 +11,8 @@ percent-tenths-requires c κs = search rules
 slice-aggregate-put-form : tie.Need-slice-aggregate-put-form
 slice-aggregate-put-form c = search rules
 
-cast-t14 : tie.Need-overflow-cast-t14
-cast-t14 c = search rules
-
-wanted-requires : tie.Need-wanted-requires
-wanted-requires c κs = search rules
-
-cast-t16 : tie.Need-overflow-cast-t16
-cast-t16 c = search rules
+cast-t15 : tie.Need-overflow-cast-t15
+cast-t15 c = search rules
 
 slice-aggregate-put-form-2 : tie.Need-slice-aggregate-put-form-2
 slice-aggregate-put-form-2 c = search rules
@@ -32,6 +26,9 @@ put-ramp-requires c κs = search rules
 slice-aggregate-put-form-3 : tie.Need-slice-aggregate-put-form-3
 slice-aggregate-put-form-3 c = search rules
 
+cast-t27 : tie.Need-overflow-cast-t27
+cast-t27 c = search rules
+
 slice-aggregate-put-form-4 : tie.Need-slice-aggregate-put-form-4
 slice-aggregate-put-form-4 c = search rules
 
@@ -41,7 +38,7 @@ put-form-requires-2 c κs = search rules
 returns : tie.Need-returns
 returns c =
     let last = c.before.before in
-    let ramp = last.before.before.before.before.before.before in
+    let ramp = last.before.before.before.before.before.before.before in
     frames-3 ramp.before.before.before.before.put-form.ensures ramp.put-ramp.ensures last.put-form2.ensures (omega arith)
 
 same_length : tie.Need-same-length
@@ -53,13 +50,12 @@ put-duties-spec =
     (tie.spec
     percent-tenths-requires
     slice-aggregate-put-form
-    cast-t14
-    wanted-requires
-    cast-t16
+    cast-t15
     slice-aggregate-put-form-2
     put-form-requires
     put-ramp-requires
     slice-aggregate-put-form-3
+    cast-t27
     slice-aggregate-put-form-4
     put-form-requires-2
     same_length

@@ -28,17 +28,12 @@ put-starts-requires c κs = tt
 put-channels-requires : tie.Need-put-channels-requires
 put-channels-requires c κs = tt
 
-put-tachometers-requires : tie.Need-put-tachometers-requires
-put-tachometers-requires c κs = tt
-
 returns : tie.Need-returns
 returns c =
-    let fifth = c.before.before.before.before.before.before in
-    let fourth = fifth.before.before.before.before in
+    let fourth = c.before.before.before.before.before.before in
     let third = fourth.before.before.before.before.before.before in
     let second = third.before.before.before.before in
-    let tables = frame_then fifth.put-channels.ensures c.before.before.put-tachometers.ensures in
-    frames-4 second.before.before.before.before.put-timer.ensures second.put-pins.ensures third.put-modification.ensures (frame_then fourth.put-starts.ensures tables) (omega arith)
+    frames-4 second.before.before.before.before.put-timer.ensures second.put-pins.ensures third.put-modification.ensures (frame_then fourth.put-starts.ensures c.before.before.put-channels.ensures) (omega arith)
 
 same_length : tie.Need-same-length
 same_length c = (returns c).long
@@ -55,6 +50,5 @@ put-show-spec =
     start-delay-requires
     put-starts-requires
     put-channels-requires
-    put-tachometers-requires
     same_length
     returns)

@@ -1,19 +1,13 @@
 -- `tachometer::channel_result` meets its contract: each part is what its definition says. Assumes nothing.
-use Rattle.rules.specs.Tachometer.{result_taken, channel_result}
-use mathlib.Core.Path.{refl, sym, ◌∙◌}
-use borrow.Author.Tests.{not-true}
+use Rattle.rules.specs.Tachometer.{channel_result}
 use Rattle.tachometer.proofs.channel_result.Statement.{statement}
 use Rattle.tachometer.proofs.channel_result.Tie as tie
 
-tachometer-enabled-requires : tie.Need-tachometer-enabled-requires
-tachometer-enabled-requires c κs = tt
-
-returns : tie.Need-returns
-unfolding channel_result result_taken
-returns c = rw (sym c.before.tachometer-enabled.ensures ∙ not-true _ c.if1.true) refl
-
 stored-count-requires : tie.Need-stored-count-requires
 stored-count-requires c κs = tt
+
+tachometer-enabled-requires : tie.Need-tachometer-enabled-requires
+tachometer-enabled-requires c κs = tt
 
 judged-requires : tie.Need-judged-requires
 judged-requires c κs = tt
@@ -30,28 +24,27 @@ result-taken-requires c κs = tt
 with-results-requires : tie.Need-with-results-requires
 with-results-requires c κs = tt
 
-returns-2 : tie.Need-returns-2
+returns : tie.Need-returns
 unfolding channel_result
-returns-2 c =
+returns c =
     rw (
       c.before.result-taken.ensures,
       c.before.before.results-of.ensures,
       c.before.before.before.is-bad.ensures,
       c.before.before.before.before.judged.ensures,
-      c.before.before.before.before.before.stored-count.ensures,
-      c.before.before.before.before.before.before.before.tachometer-enabled.ensures,
+      c.before.before.before.before.before.tachometer-enabled.ensures,
+      c.before.before.before.before.before.before.stored-count.ensures,
     ) at c.with_results.ensures
 
 pub channel-result-spec : {M : Type 1} → statement M
 channel-result-spec =
     tie.close
     (tie.spec
-    tachometer-enabled-requires
-    returns
     stored-count-requires
+    tachometer-enabled-requires
     judged-requires
     is-bad-requires
     results-of-requires
     result-taken-requires
     with-results-requires
-    returns-2)
+    returns)

@@ -5,8 +5,7 @@ use Rattle.laws.proofs.Valid.{few_pulses}
 use Rattle.rules.specs.State.{blank}
 use Rattle.laws.proofs.Each.{map_same, Filled, filled_none, filled_more, filled-all}
 use Rattle.laws.proofs.ChannelTicks.{channel_ticks}
-use Rattle.laws.proofs.Waiting.{stood, stood-long, stood-at, stood-held}
-use Rattle.laws.proofs.StateTicks.{all-overridden}
+use Rattle.laws.proofs.Waiting.{stood, stood-long, stood-at}
 use Rattle.ticks.proofs.channels_after.Statement.{statement}
 use Rattle.ticks.proofs.channels_after.Tie as tie
 
@@ -34,19 +33,8 @@ far c i =
     let ticks : c.args.ticks < 2 ^ 32 = search rules in
     omega (arith, low c i)
 
-all-overridden-requires : tie.Need-all-overridden-requires invariant-loop decreases-loop
-all-overridden-requires c κs = tt
-
-returns : tie.Need-returns invariant-loop decreases-loop
-returns c =
-    let start = c.before.before in
-    let a = start.args in
-    let s = six start in
-    let held = all-overridden a.now (sym c.before.all-overridden.ensures ∙ c.if1.true) in
-    sym (stood-held a.now a.ticks a.clock held a.t3 a.t2 (s.1 ∙ sym s.0))
-
 loop-holds : tie.Need-loop-init invariant-loop decreases-loop
-loop-holds c = let start = c.before.before in filled_none _ _ start.args.t2 ((six start).0 ∙ sym (long start))
+loop-holds c = filled_none _ _ c.args.t2 ((six c).0 ∙ sym (long c))
 
 mul-channel : tie.Need-overflow-mul-channel invariant-loop decreases-loop
 mul-channel c = omega arith
@@ -67,16 +55,15 @@ cast-channel-after : tie.Need-overflow-cast-channel-after invariant-loop decreas
 cast-channel-after c = search rules
 
 add-channel-after : tie.Need-overflow-add-channel-after invariant-loop decreases-loop
-add-channel-after c = let l = c.before.before.before in omega (arith, far l.before.before.before l.loop.i)
+add-channel-after c = let l = c.before.before.before in omega (arith, far l.before l.loop.i)
 
 sub-channel-after : tie.Need-overflow-sub-channel-after invariant-loop decreases-loop
-sub-channel-after c = let l = c.before.before.before in low l.before.before.before l.loop.i
+sub-channel-after c = let l = c.before.before.before in low l.before l.loop.i
 
 channel-after-requires : tie.Need-channel-after-requires invariant-loop decreases-loop
 channel-after-requires c κs =
     let l = c.before.before.before in
-    let start = l.before.before.before in
-    (leb-true _ _ (every-at few_pulses start.args.t2 l.loop.i blank refl start.requires.0), far start l.loop.i)
+    (leb-true _ _ (every-at few_pulses l.before.args.t2 l.loop.i blank refl l.before.requires.0), far l.before l.loop.i)
 
 mul_next : tie.Need-overflow-mul-next invariant-loop decreases-loop
 mul_next c = omega arith
@@ -93,7 +80,7 @@ loop-less c = search rules
 loop-again : tie.Need-loop-preserved invariant-loop decreases-loop
 loop-again c =
     let l = c.before.before.before.before in
-    let start = l.before.before.before in
+    let start = l.before in
     let a = start.args in
     let s = six start in
     let skip = get_or a.t3 l.loop.i 0 in
@@ -102,11 +89,11 @@ loop-again c =
     ∙ ap (λ b. channel_ticks b (a.ticks - skip) (a.clock + skip) (get_or a.t2 l.loop.i blank)) c.before.overridden.ensures
     ∙ sym (stood-at a.now a.ticks a.clock a.t3 a.t2 l.loop.i (omega (arith, s.1)) (omega (arith, s.0))))
 
-returns-2 : tie.Need-returns-2 invariant-loop decreases-loop
-returns-2 c =
-    let start = c.before.before.before.before in
+returns : tie.Need-returns invariant-loop decreases-loop
+returns c =
+    let start = c.before.before in
     filled-all _ _ c.before.loop.next c.before.loop.i (omega (arith, long start)) c.before.loop.invariant
     ∙ map_same (λ ch. ch) (λ ch. refl) _
 
 pub channels-after-spec : {M : Type 1} → statement M
-channels-after-spec = tie.close (tie.spec invariant-loop decreases-loop all-overridden-requires returns loop-holds mul-channel array-copy-out-channel mul-skipped array-read-skipped overridden-requires cast-channel-after add-channel-after sub-channel-after channel-after-requires mul_next array-set-from-next add-i loop-less loop-again returns-2)
+channels-after-spec = tie.close (tie.spec invariant-loop decreases-loop loop-holds mul-channel array-copy-out-channel mul-skipped array-read-skipped overridden-requires cast-channel-after add-channel-after sub-channel-after channel-after-requires mul_next array-set-from-next add-i loop-less loop-again returns)

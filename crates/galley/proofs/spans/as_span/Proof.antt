@@ -75,7 +75,7 @@ module _ {M : Type 1} {𝓤 : Ura M} (𝓛 : Logic 𝓤) (mem : Memory → SProp
   Post = (walk_of 𝓛 spanned.ended stayed (spanned.clauses 𝓛 mem run)).post (((κ, tt), (q, tt), tt, (n, (s, (g, tt))), passed), tt)
 
   abbrev OwnPart : Fml
-  OwnPart = Part.own s (slice_of s ∷ [])
+  OwnPart = Part.own_val s (slice_of s ∷ [])
 
   abbrev OwnGalley : Fml
   OwnGalley = (G.the_row).own_val g (v ∷ [])

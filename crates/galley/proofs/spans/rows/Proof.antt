@@ -105,7 +105,7 @@ module _ {M : Type 1} {𝓤 : Ura M} (𝓛 : Logic 𝓤) (mem : Memory → SProp
   OwnGalley = (G.the_row).own_val g (v ∷ [])
 
   abbrev OwnTable : Bor (List ℕ) → Fml
-  OwnTable s = Table.own s (slice_of s ∷ [])
+  OwnTable s = Table.own_val s (slice_of s ∷ [])
 
   abbrev Entry : SProp 𝓤
   Entry = on_entry 𝓛 rows.signature (κ, tt) (q, tt) (g, (a, (b, (normal, (quiet, tt))))) passed
@@ -192,10 +192,10 @@ module _ {M : Type 1} {𝓤 : Ura M} (𝓛 : Logic 𝓤) (mem : Memory → SProp
       join ! $ frame ! $ done !
 
   goes-span : (n : ℕ) (u : Val) (s : Bor (List ℕ)) (w : Val) → Is u8 n (u ∷ []) →
-      ent 𝓤 (⋆ 𝓛 (‵ (Table.own s (w ∷ [])) ∷ (‵ (flft κ q) ⊛ ‵ ftrue) ∷ ‵ Owns ∷ []))
+      ent 𝓤 (⋆ 𝓛 (‵ (Table.own_val s (w ∷ [])) ∷ (‵ (flft κ q) ⊛ ‵ ftrue) ∷ ‵ Owns ∷ []))
       (sep 𝓤 ((AsSpan 𝓛 mem run).pre (to-span n u s w)) (sem 𝓛 Owns))
   goes-span n u s w is =
-      qed 𝓛 (‵ (Table.own s (w ∷ [])) ∷ (‵ (flft κ q) ⊛ ‵ ftrue) ∷ ‵ Owns ∷ []) ∵
+      qed 𝓛 (‵ (Table.own_val s (w ∷ [])) ∷ (‵ (flft κ q) ⊛ ‵ ftrue) ∷ ‵ Owns ∷ []) ∵
       move ! (2 ∷ []) $ use1 𝓛 (‵ Owns ⊛ ‵ Owns) owns-twice $ split ! $
       -- [what the parameters own; the same; the part; the token]: of the first the galley is kept
       fsplit ! $ move ! (1 ∷ []) $ drop ! $ nothing ! $ move ! (1 ∷ 0 ∷ []) $ fjoin ! $ move ! (2 ∷ 0 ∷ []) $ fjoin ! $
@@ -203,9 +203,9 @@ module _ {M : Type 1} {𝓤 : Ura M} (𝓛 : Logic 𝓤) (mem : Memory → SProp
       move ! (2 ∷ 0 ∷ []) $ use2 𝓛 (raw ((AsSpan 𝓛 mem run).pre (to-span n u s w))) (asked-span n u s w) $ frame ! $ done !
 
   exits : (n : ℕ) (s : Bor (List ℕ)) (r : Span) (u : Val) → Refused n → Parted s → Spanned n s r →
-      ent 𝓤 (⋆ 𝓛 (‵ ((Held (κ, tt)).own r (u ∷ [])) ∷ (‵ (flft κ q) ⊛ ‵ ftrue) ∷ ‵ Owns ∷ [])) (Post u)
+      ent 𝓤 (⋆ 𝓛 (‵ ((Held (κ, tt)).own_val r (u ∷ [])) ∷ (‵ (flft κ q) ⊛ ‵ ftrue) ∷ ‵ Owns ∷ [])) (Post u)
   exits n s r u e f o =
-      qed 𝓛 (‵ ((Held (κ, tt)).own r (u ∷ [])) ∷ (‵ (flft κ q) ⊛ ‵ ftrue) ∷ ‵ Owns ∷ []) ∵
+      qed 𝓛 (‵ ((Held (κ, tt)).own_val r (u ∷ [])) ∷ (‵ (flft κ q) ⊛ ‵ ftrue) ∷ ‵ Owns ∷ []) ∵
       suffices ! _
       (ends_at 𝓛 rows.ended stayed (rows.clauses 𝓛 mem run) (((κ, tt), (q, tt), tt, (g, (a, (b, (normal, (quiet, tt))))), passed), tt)
       u r (tt, (tt, (tt, (tt, (tt, tt))))) (tt, (tt, (tt, (tt, (tt, tt)))))) $
@@ -236,7 +236,7 @@ module _ {M : Type 1} {𝓤 : Ura M} (𝓛 : Logic 𝓤) (mem : Memory → SProp
         calls_at ! fm (Rows 𝓛 mem run) known-rows to-rows
         (and_then ! (load ! (from ! (stop !)) (look ! 14 refl)) (and_then ! (load ! (from ! (stop !)) (look ! 12 refl)) (and_then ! (load ! (from ! (stop !)) (look ! 10 refl))
         (and_then ! (load ! (from ! (stop !)) (look ! 8 refl)) (and_then ! (load ! (from ! (stop !)) (look ! 6 refl)) (no_more !)))))) (λ w.
-        use1 𝓛 (later (some (λ (s : Bor (List ℕ)). ((‵ (flft κ q) ⊛ ‵ ftrue) ⊛ ‵ (Table.own s (w ∷ []))) ⊛ raw (SaidRows s)))) (id⊢ 𝓤 _) $
+        use1 𝓛 (later (some (λ (s : Bor (List ℕ)). ((‵ (flft κ q) ⊛ ‵ ftrue) ⊛ ‵ (Table.own_val s (w ∷ []))) ⊛ raw (SaidRows s)))) (id⊢ 𝓤 _) $
         await ! tt $ pick ! (λ s.
         split ! $ move ! (1 ∷ []) $ use1 𝓛 (raw (fact 𝓤 (Parted s))) (said-rows s) $ heard ! (Parted s) (λ f. split ! $ move ! (1 ∷ []) $
         -- [the part; the token; what the parameters own; room for _7; …; _6; …]
@@ -245,7 +245,7 @@ module _ {M : Type 1} {𝓤 : Ura M} (𝓛 : Logic 𝓤) (mem : Memory → SProp
         use3 𝓛 (raw ((AsSpan 𝓛 mem run).pre (to-span n u s w)) ⊛ ‵ Owns) (goes-span n u s w is-n) $ split ! $
         calls_at ! fm (AsSpan 𝓛 mem run) known-span (to-span n u s w)
         (and_then ! (load ! (from ! (stop !)) (look ! 4 refl)) (and_then ! (load ! (from ! (stop !)) (look ! 2 refl)) (and_then ! (load ! (from ! (stop !)) (look ! 14 refl)) (no_more !)))) (λ u'.
-        use1 𝓛 (later (some (λ (r : Span). ((‵ (flft κ q) ⊛ ‵ ftrue) ⊛ ‵ ((Held (κ, tt)).own r (u' ∷ []))) ⊛ raw (SaidSpan n s r)))) (id⊢ 𝓤 _) $
+        use1 𝓛 (later (some (λ (r : Span). ((‵ (flft κ q) ⊛ ‵ ftrue) ⊛ ‵ ((Held (κ, tt)).own_val r (u' ∷ []))) ⊛ raw (SaidSpan n s r)))) (id⊢ 𝓤 _) $
         await ! tt $ pick ! (λ r.
         split ! $ move ! (1 ∷ []) $ use1 𝓛 (raw (fact 𝓤 (Spanned n s r))) (said-span n s r) $ heard ! (Spanned n s r) (λ o. split ! $ move ! (1 ∷ []) $
         -- [the result; the token; what the parameters own; _7; …; _6; …; … up to room for _0; …]

@@ -65,7 +65,7 @@ module _ {M : Type 1} {𝓤 : Ura M} (𝓛 : Logic 𝓤) (mem : Memory → SProp
   Post = (walk_of 𝓛 moved.ended stayed (moved.clauses 𝓛 mem run)).post (((κ, tt), (q, tt), tt, (reader, (n, tt)), passed), tt)
 
   abbrev Own : Fml
-  Own = (Held (κ, tt)).own reader (v ∷ [])
+  Own = (Held (κ, tt)).own_val reader (v ∷ [])
 
   exits : ent 𝓤 Entry (Post (T'.lowered made))
   exits =

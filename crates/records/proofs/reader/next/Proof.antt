@@ -83,7 +83,7 @@ module _ {M : Type 1} {𝓤 : Ura M} (𝓛 : Logic 𝓤) (mem : Memory → SProp
   Post = (walk_of 𝓛 next.ended stayed (next.clauses 𝓛 mem run)).post (((κ, tt), (q, tt), tt, (reader, tt), (v ∷ [], tt)), tt)
 
   abbrev Own : Fml
-  Own = (Held (κ, tt)).own reader (v ∷ [])
+  Own = (Held (κ, tt)).own_val reader (v ∷ [])
 
   -- the struct's type and laws, and the values of the fields
   abbrev D : Declared

@@ -30,9 +30,6 @@ returns-3 c =
     let a = start.args in
     sym (ap (λ b. channel_ticks b a.ticks a.clock a.channel) c.before.before.if1.false ∙ ticks-within a.ticks a.clock a.channel start.requires.0 c.if3.true)
 
-wanted-requires : tie.Need-wanted-requires
-wanted-requires c κs = tt
-
 cast-not-spinning : tie.Need-overflow-cast-not-spinning
 cast-not-spinning c = search rules
 
@@ -50,10 +47,10 @@ not-spinning-requires c κs = search rules
 
 returns-4 : tie.Need-returns-4
 returns-4 c =
-    let start = c.before.before.before.before.before in
+    let start = c.before.before.before.before in
     let a = start.args in
     c.not-spinning.ensures
-    ∙ sym (ap (λ b. channel_ticks b a.ticks a.clock a.channel) c.before.before.before.before.if1.false ∙ ticks-past a.ticks a.clock a.channel start.requires.0 c.before.before.if3.false)
+    ∙ sym (ap (λ b. channel_ticks b a.ticks a.clock a.channel) c.before.before.before.if1.false ∙ ticks-past a.ticks a.clock a.channel start.requires.0 c.before.if3.false)
 
 pub channel-after-spec : {M : Type 1} → statement M
 channel-after-spec =
@@ -65,7 +62,6 @@ channel-after-spec =
     cast-next
     sub-next
     returns-3
-    wanted-requires
     cast-not-spinning
     add-not-spinning
     cast-not-spinning-2

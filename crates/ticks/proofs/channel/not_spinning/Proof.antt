@@ -1,6 +1,6 @@
 -- `channel::not_spinning` meets its contract: one tick starts a spin-up that is due, and its time goes before the ramp. Assumes nothing.
 use Rattle.rules.specs.Time.{spin_ticks}
-use Rattle.laws.proofs.ChannelTicks.{channel_ticks, wanted-started, full-not-due, ticks-due-within, ticks-due-past}
+use Rattle.laws.proofs.ChannelTicks.{channel_ticks, full-not-due, ticks-due-within, ticks-due-past}
 use Rattle.std.proofs.Common.{◌<◌, false, sym, ap, ◌∙◌, arith, rules}
 use Rattle.ticks.proofs.channel.not_spinning.Statement.{statement}
 use Rattle.ticks.proofs.channel.not_spinning.Tie as tie
@@ -10,7 +10,7 @@ unfolding channel_ticks
 returns c = ap (λ n. channel_ticks false n c.before.args.clock c.before.args.channel) (sym c.if1.true)
 
 spin-up-due-requires : tie.Need-spin-up-due-requires
-spin-up-due-requires c κs = c.before.requires.2
+spin-up-due-requires c κs = tt
 
 spin-code-requires : tie.Need-spin-code-requires
 spin-code-requires c κs = tt
@@ -56,12 +56,7 @@ sub-ramped c = search rules
 ramped-requires : tie.Need-ramped-requires
 ramped-requires c κs =
     let start = c.before.before.before.before.before.before in
-    let due = sym c.before.before.before.before.spin-up-due.ensures ∙ c.before.before.before.if2.true in (
-      start.requires.0,
-      full-not-due start.args.channel start.args.channel.spin 0,
-      omega (arith, start.requires.1),
-      start.requires.2 ∙ sym (wanted-started start.args.channel start.args.channel.spin 0 due),
-    )
+    (start.requires.0, full-not-due start.args.channel start.args.channel.spin 0, omega (arith, start.requires.1))
 
 returns-3 : tie.Need-returns-3
 returns-3 c =
@@ -74,7 +69,7 @@ returns-3 c =
     ∙ sym (ticks-due-past start.args.ticks start.args.clock start.args.channel start.requires.0 due some (omega arith))
 
 ramped-requires-2 : tie.Need-ramped-requires-2
-ramped-requires-2 c κs = let start = c.before.before.before in (start.requires.0, sym c.before.spin-up-due.ensures ∙ c.if2.false, omega (arith, start.requires.1), start.requires.2)
+ramped-requires-2 c κs = let start = c.before.before.before in (start.requires.0, sym c.before.spin-up-due.ensures ∙ c.if2.false, omega (arith, start.requires.1))
 
 returns-4 : tie.Need-returns-4
 returns-4 c = search rules

@@ -3,6 +3,9 @@ use native.Mathlib.Nat.{mod-mod}
 use Rattle.ticks.proofs.channel.shift_of.Statement.{statement}
 use Rattle.ticks.proofs.channel.shift_of.Tie as tie
 
+wanted-requires : tie.Need-wanted-requires
+wanted-requires c κs = tt
+
 rate-code-requires : tie.Need-rate-code-requires
 rate-code-requires c κs = tt
 
@@ -13,7 +16,9 @@ period-shift-requires : tie.Need-period-shift-requires
 period-shift-requires c κs = tt
 
 returns : tie.Need-returns
-returns c = rw (c.before.asymmetric.ensures, c.before.before.rate-code.ensures, c.before.before.before.before.requires, mod-mod) at c.period-shift.ensures
+returns c = rw (c.before.asymmetric.ensures, c.before.before.rate-code.ensures, c.before.before.before.before.wanted.ensures, mod-mod) at c.period-shift.ensures
 
 pub shift-of-spec : {M : Type 1} → statement M
-shift-of-spec = tie.close (tie.spec rate-code-requires asymmetric-requires period-shift-requires returns)
+shift-of-spec =
+    tie.close
+    (tie.spec wanted-requires rate-code-requires asymmetric-requires period-shift-requires returns)
