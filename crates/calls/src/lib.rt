@@ -1,4 +1,6 @@
 // Any of the calls that are handed a state, as a value: what takes calls from a list or a line makes them here.
+#![tactic(auto)]
+
 ghost use Rattle.std.specs.Prelude.{◌≡◌};
 ghost use Rattle.rules.specs.Make.{without_byte, made};
 

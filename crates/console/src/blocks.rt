@@ -1,19 +1,21 @@
 // The input, block by block, and the output, gathered until the program waits for more input.
-ghost use Rattle.std.specs.Prelude.{◌≡◌, ◌+◌, ◌≤◌, length};
-ghost use Rattle.io.specs.Counts.{IsPrefixLen};
+ghost use Rattle.std.specs.Prelude.{◌≡◌, ◌+◌, ◌≤◌, length, IfOk, OnErr};
+ghost use Rattle.std.specs.Io.{ReadsAtMost};
 ghost use Rattle.console.specs.Answers.{longest_answer};
 ghost use Rattle.console.specs.Lines.{InBuffers};
 
 use crate::lines::answer;
 use console_outcome::hand::Hand;
 use console_text::gathered::{Gathered, gather};
+use std::io;
+use std::io::{Read, Write};
 
 // No answer is longer than this.
 const LONGEST_ANSWER: usize = 43079;
 
 // What goes from one block to the next: what is in hand, how many lines have ended, the line that has not, and how much of
 // the output is not yet written.
-#[derive(Drop)]
+#[derive(Clone, Copy)]
 struct Progress {
     hand: Hand,
     lines: u32,
@@ -48,62 +50,69 @@ fn next_line(lines: u32) -> u32 {
 }
 
 // Writes the output so far, and gives the index to go on at.
-fn flush(output: i32, out: &[u8], at: usize) -> usize
+fn flush<W: Write>(output: &mut W, out: &[u8], at: usize) -> io::Result<usize>
     requires { at ≤ length out.now }
-    ensures { result ≡ 0 }
+    ensures { IfOk result (λ next. next ≡ 0) }
 {
-    io::write_all(output, &out[..at]);
-    0
+    output.write_all(&out[..at])?;
+    Ok(0)
 }
 
 // Writes the output so far where it may have no room for another answer.
-fn make_room(output: i32, out: &[u8], at: usize) -> usize
+fn make_room<W: Write>(output: &mut W, out: &[u8], at: usize) -> io::Result<usize>
     requires { (at ≤ length out.now) × (longest_answer ≤ length out.now) }
-    ensures { result + longest_answer ≤ length out.now }
+    ensures { IfOk result (λ next. next + longest_answer ≤ length out.now) }
 {
     if out.len() - LONGEST_ANSWER < at {
         return flush(output, out, at);
     }
-    at
+    Ok(at)
 }
 
 // Answers a line that has ended.
-fn end_line(output: i32, line: &[u8], out: &mut [u8], progress: Progress) -> Progress
+fn end_line<W: Write>(
+    output: &mut W,
+    line: &[u8],
+    out: &mut [u8],
+    progress: Progress,
+) -> io::Result<Progress>
     requires { InBuffers progress line.now out.old }
-    ensures { InBuffers result line.now out.new }
+    ensures ok { IfOk result (λ next. InBuffers next line.now out.new) }
+    ensures err { OnErr result (length out.new ≡ length out.old) }
 {
     let lines = next_line(progress.lines);
     let gathered = Gathered {
         kept: progress.kept,
         total: progress.total,
     };
-    let at = make_room(output, out, progress.at);
+    let at = make_room(output, out, progress.at)?;
     let reply = answer(line, gathered, lines, progress.hand, out, at);
     let hand = reply.hand;
-    Progress {
+    Ok(Progress {
         hand,
         lines,
         kept: 0,
         total: 0,
         at: reply.at,
-    }
+    })
 }
 
 // Answers the line if it has ended.
-fn end_line_if(
+fn end_line_if<W: Write>(
     ended: bool,
-    output: i32,
+    output: &mut W,
     line: &[u8],
     out: &mut [u8],
     progress: Progress,
-) -> Progress
+) -> io::Result<Progress>
     requires { InBuffers progress line.now out.old }
-    ensures { InBuffers result line.now out.new }
+    ensures ok { IfOk result (λ next. InBuffers next line.now out.new) }
+    ensures err { OnErr result (length out.new ≡ length out.old) }
 {
     if ended {
         return end_line(output, line, out, progress);
     }
-    progress
+    Ok(progress)
 }
 
 // The index of the next line feed, or the length where there is none.
@@ -137,41 +146,56 @@ fn add(bytes: &[u8], line: &mut [u8], progress: Progress) -> Progress
 }
 
 // Answers the lines that end in a block, and gathers the one that does not.
-fn take_block(
-    output: i32,
+fn take_block<W: Write>(
+    output: &mut W,
     block: &[u8],
     line: &mut [u8],
     out: &mut [u8],
     progress: Progress,
-) -> Progress
+) -> io::Result<Progress>
     requires { InBuffers progress line.old out.old }
-    ensures { InBuffers result line.new out.new }
+    ensures ok { IfOk result (λ next. InBuffers next line.new out.new) }
+    ensures err { OnErr result ((length line.new ≡ length line.old) × (length out.new ≡ length out.old)) }
 {
     let mut next = progress;
     let mut from = 0;
     while from < block.len() {
         let to = feed_after(block, from);
         next = add(&block[from..to], line, next);
-        next = end_line_if(to < block.len(), output, line, out, next);
+        next = end_line_if(to < block.len(), output, line, out, next)?;
         from = to + 1;
     }
-    next
+    Ok(next)
 }
 
 // Answers a last line without a line feed.
-fn finish(output: i32, line: &[u8], out: &mut [u8], progress: Progress)
+fn finish<W: Write>(
+    output: &mut W,
+    line: &[u8],
+    out: &mut [u8],
+    progress: Progress,
+) -> io::Result<()>
     requires { InBuffers progress line.now out.old }
+    ensures { OnErr result (length out.new ≡ length out.old) }
 {
-    let last = end_line_if(0 < progress.total, output, line, out, progress);
-    flush(output, out, last.at);
+    let last = end_line_if(0 < progress.total, output, line, out, progress)?;
+    flush(output, out, last.at)?;
+    Ok(())
 }
 
 // Reads as much as there is, and gives how much, which is nothing at the end.
-fn read_block(input: i32, block: &mut [u8]) -> usize
-    ensures { IsPrefixLen result block.new }
+fn read_block<R: Read>(input: &mut R, block: &mut [u8]) -> io::Result<usize>
+    ensures ok { ReadsAtMost result block.new }
+    ensures err { OnErr result (length block.new ≡ length block.old) }
 {
-    let got = libc::read(input, block);
-    io::count(got, block)
+    input.read(block)
+}
+
+// Room for a block, and for the output so far.
+fn block_buffer() -> [u8; 65536]
+    ensures { 65536 ≡ length result }
+{
+    [0; 65536]
 }
 
 // Room for a line that is a call and a carriage return at its end.
@@ -181,27 +205,25 @@ fn line_buffer() -> [u8; 4097]
     [0; 4097]
 }
 
-// Reads lines from one descriptor until it ends, and writes their answers to the other. What has been answered is written
-// before each read, so that another program can wait for it.
-pub fn run(input: i32, output: i32) {
-    let mut block_space = io::large_buffer();
+// Reads lines from a reader until it ends, and writes their answers to a writer. What has been answered is written before each
+// read, so that another program can wait for it.
+pub fn run<R: Read, W: Write>(input: &mut R, output: &mut W) -> io::Result<()> {
+    let mut block_space = block_buffer();
     let block: &mut [u8] = &mut block_space;
     let mut line_space = line_buffer();
     let line: &mut [u8] = &mut line_space;
-    let mut out_space = io::large_buffer();
+    let mut out_space = block_buffer();
     let out: &mut [u8] = &mut out_space;
     let mut progress = begin();
-    // A proved loop has to end, and nothing says that the input does: this counts down from more reads than any run makes.
-    let mut turns = 18446744073709551615u64;
-    while 0 < turns {
-        let n = read_block(input, block);
+    // A proved loop has to end, and nothing says that the input does: this is more reads than any run makes.
+    for _ in 0..u64::MAX {
+        let n = read_block(input, block)?;
         if n == 0 {
             break;
         }
-        progress = take_block(output, &block[..n], line, out, progress);
-        let at = flush(output, out, progress.at);
+        progress = take_block(output, &block[..n], line, out, progress)?;
+        let at = flush(output, out, progress.at)?;
         progress.at = at;
-        turns -= 1;
     }
-    finish(output, line, out, progress);
+    finish(output, line, out, progress)
 }

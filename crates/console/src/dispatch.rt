@@ -4,7 +4,7 @@ ghost use Rattle.console_outcome.specs.Outcome.{told_of, fresh, line_most};
 ghost use Rattle.console.specs.Answers.{longest_answer, made_told, record_told, told_by, Prints, Shows, AnswersRequest, Stays, AnswersLine};
 
 use crate::{errors, help};
-use console_answers::{cabin, device, speeds};
+use console_answers::{cabin, controller, speeds};
 use console_commands::{LINE_BYTES, Parsed, Reason, kinds};
 use console_galley::{commands, degrees, show};
 use console_orders::{decoded, packets};
@@ -16,7 +16,7 @@ use lent::value;
 use numbers::STATE_NUMBERS;
 
 // What is in hand after a line, and the index after its answer.
-#[derive(Drop)]
+#[derive(Clone, Copy)]
 pub struct Reply {
     pub hand: Hand,
     pub at: usize,
@@ -33,10 +33,10 @@ fn outcome_of(
     ensures { told_of result buffer.new ≡ told_by hand values.now bytes.now buffer.old verb }
 {
     match verb {
-        Verb::Start => device::begin(hand, values),
-        Verb::FanFail => device::ask_fan_fail(hand),
-        Verb::Dump => device::dump(hand),
-        Verb::Load => device::load(hand, values),
+        Verb::Start => controller::begin(hand, values),
+        Verb::FanFail => controller::ask_fan_fail(hand),
+        Verb::Dump => controller::dump(hand),
+        Verb::Load => controller::load(hand, values),
         Verb::Run => packets::run_string(hand, values, bytes, buffer),
         Verb::GalleyFresh => commands::begin(hand, values),
         Verb::GalleySample => commands::sample(hand, values, bytes),
@@ -107,7 +107,7 @@ fn answer_call(
 {
     let call = kinds::call_by(kind, value(values, 0), value(values, 1));
     printed(
-        device::make(hand, call, orders::is_read(call)),
+        controller::make(hand, call, orders::is_read(call)),
         &[],
         out,
         at,

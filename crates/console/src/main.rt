@@ -1,12 +1,14 @@
 // The console: lines of commands on standard input, answers on standard output.
+#![tactic(auto)]
+
 mod blocks;
 mod dispatch;
 mod errors;
 mod help;
 mod lines;
 
-use libc::{STDIN_FILENO, STDOUT_FILENO};
+use std::io;
 
-fn main() {
-    blocks::run(STDIN_FILENO, STDOUT_FILENO);
+fn main(rt: HostRuntime) -> io::Result<()> {
+    blocks::run(&mut rt.stdin(), &mut rt.stdout())
 }

@@ -2,7 +2,6 @@
 use Prim.Native.Nat.{ℕ, zero, suc, ◌+◌, ◌-◌, ◌*◌, ◌/◌, ◌^◌, ◌≤◌, ◌<◌, min}
 use mathlib.Core.Path.{◌≡◌, sym, ap, ◌∙◌}
 use mathlib.Core.List.{List, [], ◌∷◌, ◌++◌, append_assoc}
-use native.Mathlib.Nat.{mul-le-mul_left}
 use native.Mathlib.Omega.{arith}
 use lib.ListN.{length, take, drop, length-append, length-replicate, replicate-append-replicate}
 use lib.Seq.{take_at, drop_at}
@@ -31,10 +30,6 @@ pub duty-told : (s : State) (i ticks : ℕ) {passed : Answer} {k : Conditions} {
     k ≡ conditions_of passed.state → duty ≡ output_duty k (channel passed.state i) → duty ≡ duty_after s i ticks
 unfolding duty_after
 duty-told s i ticks e f g = g ∙ rw (f, e)
-
--- a column lies no further on than the end
-pub column-within : (ticks column : ℕ) → column ≤ 64 → ticks * column ≤ ticks * 64
-column-within ticks column h = mul-le-mul_left ticks h
 
 module _ (duty : ℕ) where
   pub block_none : duty ≡ 0 → 0x20 ∷ [] ≡ block_of duty

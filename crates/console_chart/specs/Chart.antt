@@ -1,7 +1,6 @@
 -- `chart TICKS`: "how the duties go over the next TICKS ticks if nothing is sent".
-use Rattle.std.specs.Prelude.{ℕ, zero, suc, ◌+◌, ◌-◌, ◌*◌, ◌/◌, min, List, [], ◌∷◌, ◌++◌, eqb, length, replicate}
+use Rattle.std.specs.Prelude.{ℕ, zero, suc, ◌+◌, ◌-◌, ◌*◌, ◌/◌, min, List, [], ◌∷◌, ◌++◌, eqb, length, replicate, if◌then◌else◌}
 use Rattle.rules.specs.declared.State.{State}
-use Rattle.rules.specs.Basics.{if◌then◌else◌}
 use Rattle.rules.specs.State.{channel}
 use Rattle.rules.specs.Duty.{conditions_of, output_duty}
 use Rattle.rules.specs.Valid.{valid_of}

@@ -1,4 +1,6 @@
 // `chart`: the duties over the next ticks, drawn. Each column is one passing of ticks from the state in hand.
+#![tactic(auto)]
+
 ghost use Rattle.std.specs.Prelude.{◌≡◌, ◌∷◌, ◌≤◌, ◌<◌, ◌/◌, min, length};
 ghost use Rattle.lent.specs.Put.{Put};
 ghost use Rattle.console_chart.specs.Chart.{duty_after, padded, ticks_at, block_of, columns_of, time_line, line_of, chart_of, chart_most};

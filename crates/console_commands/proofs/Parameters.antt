@@ -1,34 +1,19 @@
 -- The parameters of a command, one by one.
-use Prim.Native.Nat.{ℕ, ◌≤◌, ◌<◌}
+use Prim.Native.Nat.{ℕ, ◌<◌}
 use mathlib.Core.Path.{◌≡◌, refl, sym}
 use mathlib.Core.Bool.{Bool, true, false}
 use mathlib.Core.List.{List, map}
-use native.Mathlib.Omega.{arith}
-use lib.ListN.{length, get_or, take, length-take, length-map}
-use lib.Seq.{get_or-take}
-use borrow.Author.Tests.{le-leb, lt-leb}
+use lib.ListN.{length, get_or, length-map}
+use borrow.Author.Tests.{lt-leb}
 use Rattle.laws.proofs.Each.{map_at}
 use Rattle.numbers.specs.Numbers.{limits}
 use Rattle.console_table.specs.declared.Parameter.{Parameter}
 use Rattle.console_table.specs.declared.Parameter.TheVariants.{Number, Bytes}
 use Rattle.console_table.specs.Table.{any, state_numbers}
-use Rattle.console_table.specs.Rows.{parameter_by, parameters_by}
+use Rattle.console_table.specs.Rows.{parameters_by}
 use Rattle.console_commands.specs.Steps.{parameters_as}
 
 module _ (count : ℕ) (slots : List ℕ) {i : ℕ} (h : i < length (parameters_by count slots)) where
-  module _ (few : count ≤ 6) where
-    within : i < length (take count slots)
-    within =
-        let below : i < length (map (λ (slot : ℕ). parameter_by slot) (take count slots)) = rw (le-leb count 6 few) at h in
-        rw length-map at below
-
-    pub listed_below : (i < count) × (i < length slots)
-    listed_below = (omega (arith, within, length-take count slots), omega (arith, within, length-take count slots))
-
-    pub listed-is : parameter_by (get_or slots i 0) ≡ get_or (parameters_by count slots) i Bytes
-    listed-is =
-        rw (le-leb count 6 few, map_at (λ (slot : ℕ). parameter_by slot) (take count slots) i 0 Bytes within, get_or-take count slots i 0 listed_below.0)
-
   pub state-is : 6 < count → Number (get_or limits i 0) ≡ get_or (parameters_by count slots) i Bytes
   unfolding state_numbers
   state-is many =

@@ -5,12 +5,9 @@ use mathlib.Core.Bool.{Bool, true, false}
 use mathlib.Core.List.{List, [], ◌∷◌}
 use native.Mathlib.Omega.{arith}
 use lib.ListN.{length, drop}
-use lib.Seq.{sets}
-use borrow.Author.Tests.{eq-eqb, ne_eqb}
 use Rattle.numbers.specs.Numbers.{number_count}
 use Rattle.console_table.specs.declared.Asks.{Asks}
 use Rattle.console_table.specs.declared.Asks.TheVariants.{For, Record}
-use Rattle.console_table.specs.declared.Parameter.{Parameter}
 use Rattle.console_table.specs.declared.Kind.{Kind}
 use Rattle.console_table.specs.declared.Request.{Request}
 use Rattle.console_table.specs.declared.Request.TheVariants as request
@@ -24,9 +21,9 @@ use Rattle.console_commands.specs.declared.Reason.TheVariants.{UnknownCommand, W
 use Rattle.console_commands.specs.declared.Parsed.{Parsed}
 use Rattle.console_commands.specs.declared.Parsed.TheVariants.{For as Asked·for, Encode, Wrong}
 use Rattle.console_table.specs.Table.{Row, commands, Named, known, unknown, named_by}
-use Rattle.console_commands.specs.Commands.{taken_of, numbers_of, bytes_in, Line, reading, wrong, widened, record_by, record_of, line_of, parsed_as}
+use Rattle.console_commands.specs.Commands.{Line, reading, wrong, widened, record_by, record_of, line_of}
 use Rattle.console_table.specs.Rows.{listed_in, Is, FoundAs}
-use Rattle.console_commands.specs.Steps.{parameters_as, parameters_of, Gives, LooksUp, Looks}
+use Rattle.console_commands.specs.Steps.{parameters_as, parameters_of, Gives, LooksUp}
 use Rattle.console_commands.proofs.Parameters.{as_many}
 use Rattle.console_table.proofs.Rows.{state-numbers}
 
@@ -34,15 +31,6 @@ use Rattle.console_table.proofs.Rows.{state-numbers}
 module _ (values bytes : List ℕ) where
   pub gives-wrong : (line : Line) {reason : Reason} → line ≡ wrong reason → Gives line values bytes values bytes (Wrong reason)
   gives-wrong line e = rw e (record { parsed-as = refl; values-set = refl; bytes-set = refl })
-
-  module _ (place : ℕ) (parsed : Parsed) (parameters : List Parameter) (first : ℕ) (words : List (List ℕ)) where
-    pub miscounted : (length words ≡ length parameters → ⊥) → Gives (reading place parsed parameters first words) values bytes values bytes (Wrong (WordCount place))
-    miscounted h = record { parsed-as = rw (ne_eqb _ _ h); values-set = rw (ne_eqb _ _ h); bytes-set = rw (ne_eqb _ _ h) }
-
-    pub counted : {r : Parsed} {values_after bytes_after : List ℕ} → length words ≡ length parameters → r ≡ parsed_as parsed (taken_of parameters first words) →
-        values_after ≡ sets values 0 (numbers_of parameters first words) → bytes_after ≡ sets bytes 0 (bytes_in parameters words) →
-        Gives (reading place parsed parameters first words) values bytes values_after bytes_after r
-    counted h p v b = record { parsed-as = rw (eq-eqb _ _ h) p; values-set = rw (eq-eqb _ _ h) v; bytes-set = rw (eq-eqb _ _ h) b }
 
 pub gives_as : {line read : Line} {values bytes values_after bytes_after : List ℕ} {r : Parsed} → line ≡ read →
     Gives read values bytes values_after bytes_after r → Gives line values bytes values_after bytes_after r
@@ -91,14 +79,6 @@ module _ (wide : Bool) {command : Command} {row : Row} (asked : Asked) (is : Is 
 pub no_word : (all : List (List ℕ)) → all ≡ [] → line_of all ≡ wrong UnknownCommand
 unfolding line_of
 no_word all e = rw e
-
--- there is no word; there is one
-pub looks-none : (line : List ℕ) (from : ℕ) (looked : Looked) → words_of (drop from line) ≡ [] → looked.ended ≡ true → Looks line from looked
-looks-none line from looked e w = rw e w
-
-pub looks-some : (line : List ℕ) (from : ℕ) (looked : Looked) {word : List ℕ} {words : List (List ℕ)} → words_of (drop from line) ≡ word ∷ words →
-    looked.ended ≡ false → FoundAs (named_by word) looked.found → words_of (drop looked.end line) ≡ words → looked.end ≤ length line → Looks line from looked
-looks-some line from looked e w f r h = rw e (w, f, r, h)
 
 pub none_recorded : (all : List (List ℕ)) (place : ℕ) → all ≡ [] → record_of place all ≡ wrong (WordCount place)
 unfolding record_of

@@ -1,14 +1,11 @@
 -- The words of a line found one by one, and their values and bytes taken.
-use Prim.Native.Nat.{ℕ, suc, ◌+◌, ◌-◌, ◌≤◌, ◌<◌}
+use Prim.Native.Nat.{ℕ, suc, ◌+◌, ◌<◌}
 use mathlib.Core.Path.{◌≡◌, refl, sym, ap, ◌∙◌}
 use mathlib.Core.List.{List, [], ◌∷◌, ◌++◌}
 use native.Mathlib.Omega.{arith}
 use native.Mathlib.Numerals.{add-one}
-use lib.ListN.{length, get_or, take, drop, set}
+use lib.ListN.{length, get_or, drop, set}
 use lib.Seq.{sets, drop-cons}
-use Rattle.console_text.specs.declared.line.Word.{Word}
-use Rattle.console_text.specs.declared.line.Word.TheVariants.{At, Nothing}
-use Rattle.console_text.specs.Words.{words_of, Finds}
 use Rattle.console_table.specs.declared.Parameter.{Parameter}
 use Rattle.console_table.specs.declared.Parameter.TheVariants.{Bytes}
 use Rattle.console_commands.specs.declared.Reason.{Reason}

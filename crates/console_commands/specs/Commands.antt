@@ -1,7 +1,6 @@
 -- A line as a command: "A line that is not a call (unknown word, wrong number of words, not a number, a number too large for
 -- that parameter ..) answers `error: line N: REASON`".
-use Rattle.std.specs.Prelude.{ℕ, ◌+◌, ◌≤◌, List, [], ◌∷◌, ◌++◌, map, length, eqb, ltb, pos, negsuc}
-use Rattle.rules.specs.Basics.{if◌then◌else◌}
+use Rattle.std.specs.Prelude.{ℕ, ◌+◌, ◌≤◌, List, [], ◌∷◌, ◌++◌, map, length, eqb, ltb, pos, negsuc, if◌then◌else◌}
 use Rattle.console_text.specs.declared.number.Number.{Number}
 use Rattle.console_text.specs.declared.number.Number.TheVariants as number
 use Rattle.console_text.specs.declared.signed.Signed.{Signed}

@@ -1,4 +1,6 @@
 // A line's words as a command: which one it is, its numbers and its bytes. specs/ says what they mean.
+#![tactic(auto)]
+
 pub mod kinds;
 
 ghost use Rattle.std.specs.Prelude.{◌≡◌, ◌+◌, ◌<◌, ◌≤◌, length, drop, get_or};
@@ -26,7 +28,7 @@ use numbers::STATE_NUMBERS;
 pub const LINE_BYTES: usize = 2048;
 
 // Why a line is no call. A word is counted from 1.
-#[derive(Drop)]
+#[derive(Clone, Copy)]
 pub enum Reason {
     UnknownCommand,
     // The place of the command in the table.
@@ -43,14 +45,14 @@ pub enum Reason {
 }
 
 // Whether the parameters of a line can be taken.
-#[derive(Drop)]
+#[derive(Clone, Copy)]
 pub enum Values {
     Taken,
     Wrong(Reason),
 }
 
 // What a line asks for, or the kind of the record that it asks for, if it asks for anything.
-#[derive(Drop)]
+#[derive(Clone, Copy)]
 pub enum Parsed {
     For(Request),
     Encode(Kind),
@@ -58,14 +60,14 @@ pub enum Parsed {
 }
 
 // What a word is as one of a command's parameters: a number, of a signed one its 32 bits, or how many bytes.
-#[derive(Drop)]
+#[derive(Clone, Copy)]
 pub enum Value {
     Taken(u32),
     Refused(Reason),
 }
 
 // The parameters that a line has to have: as many as a row's, and held as the row holds them; of a record, each any number.
-#[derive(Drop)]
+#[derive(Clone, Copy)]
 pub struct Asked {
     pub count: usize,
     pub slots: [u64; 6],
@@ -249,7 +251,7 @@ fn parse_row(
 }
 
 // The word of a line from an index on: whether the line ends before there is one, the index after it, and what it names.
-#[derive(Drop)]
+#[derive(Clone, Copy)]
 pub struct Looked {
     pub ended: bool,
     pub end: usize,

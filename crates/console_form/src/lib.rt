@@ -1,4 +1,6 @@
 // Texts for a person. Each promises a frame: what stands before it stays, and how long it is at most.
+#![tactic(auto)]
+
 ghost use Rattle.std.specs.Prelude.{◌+◌, ◌*◌, ◌≤◌, max, length};
 ghost use Rattle.console_text.specs.Frame.{Frame};
 

@@ -1,19 +1,11 @@
 -- The bytes of a line in two parts.
-use Prim.Native.Nat.{ℕ, ◌+◌, ◌-◌, ◌≤◌}
-use mathlib.Core.Path.{◌≡◌, refl, sym, ◌∙◌}
+use Prim.Native.Nat.{ℕ, ◌+◌, ◌≤◌}
+use mathlib.Core.Path.{◌≡◌, refl, ◌∙◌}
 use mathlib.Core.List.{List, ◌++◌, append_assoc}
 use native.Mathlib.Omega.{arith}
-use lib.ListN.{length, take, drop, length-append, length-drop, drop_of_length-le}
-use lib.Seq.{sets, sets-eq, take_all, take_at, drop_at}
+use lib.ListN.{length, drop, length-append}
+use lib.Seq.{sets, sets-eq, take_at, drop_at}
 use Rattle.console_galley.specs.Commands.{normal_by, quiet_by}
-
-pub rest-whole : (bytes : List ℕ) (from : ℕ) → take (length bytes - from) (drop from bytes) ≡ drop from bytes
-rest-whole bytes from = take_all (length bytes - from) (drop from bytes) (rw length-drop (omega arith))
-
-pub nothing-after : (bytes : List ℕ) (count : ℕ) → length bytes ≤ count →
-    take (length bytes - length bytes) (drop (length bytes) bytes) ≡ drop count bytes
-nothing-after bytes count h =
-    rest-whole bytes (length bytes) ∙ drop_of_length-le bytes {i = length bytes} (omega arith) ∙ sym (drop_of_length-le bytes h)
 
 -- the bytes of a line are those of its two words one after the other: each table is the bytes of its own word
 pub tables-back : (normal quiet buffer : List ℕ) → length normal + length quiet ≤ length buffer →

@@ -1,7 +1,6 @@
 -- Bytes as text: "A parameter that is bytes is hexadecimal digits in pairs, capital or small; `-` is the empty string of bytes.
 -- Printed bytes are small letters, `-` where there are none."
-use Rattle.std.specs.Prelude.{ℕ, ◌+◌, ◌*◌, ◌/◌, ◌%◌, Bool, ◌&&◌, List, [], ◌∷◌, ◌++◌, length, get_or, eqb, ltb}
-use Rattle.rules.specs.Basics.{if◌then◌else◌}
+use Rattle.std.specs.Prelude.{ℕ, ◌+◌, ◌*◌, ◌/◌, ◌%◌, Bool, ◌&&◌, List, [], ◌∷◌, ◌++◌, length, get_or, eqb, ltb, if◌then◌else◌}
 use Rattle.console_text.specs.Number.{digit_of, are_digits}
 use Rattle.console_hex.specs.declared.Spelled.{Spelled}
 use Rattle.console_hex.specs.declared.Spelled.TheVariants as spelled

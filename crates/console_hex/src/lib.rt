@@ -1,4 +1,6 @@
 // A word as bytes, and bytes back to text: hexadecimal digits in pairs.
+#![tactic(auto)]
+
 ghost use Rattle.std.specs.Prelude.{◌≡◌, true, ◌+◌, ◌*◌, ◌<◌};
 ghost use Rattle.lent.specs.Put.{Put};
 ghost use Rattle.console_text.specs.Number.{digit_of, are_digits};
@@ -8,7 +10,7 @@ use console_text::number::digit;
 use lent::put;
 
 // What a word is as bytes.
-#[derive(Drop)]
+#[derive(Clone, Copy)]
 pub enum Spelled {
     // How many.
     Bytes(usize),

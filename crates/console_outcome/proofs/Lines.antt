@@ -8,14 +8,11 @@ use native.Mathlib.Omega.{arith}
 use lib.ListN.{length, get_or, take, drop, drop_of_length-le, length-append, length-take}
 use lib.Seq.{drop-cons}
 use lib.Dec.{ltb}
-use lib.IntN.{ℤ}
 use borrow.Author.Tests.{lt-ltb}
 use Rattle.lent.specs.Put.{Put}
 use Rattle.lent.proofs.Stores.{put-append}
 use Rattle.console_text.proofs.Lengths.{digits-length, signed-length}
-use Rattle.console_text.specs.Ascii.{ascii}
-use Rattle.console_text.specs.Decimal.{decimal_of}
-use Rattle.console_text.specs.Signed.{integer_of, signed_decimal}
+use Rattle.console_text.specs.Signed.{integer_of}
 use Rattle.console_hex.specs.Bytes.{hex_of}
 use Rattle.console_hex.proofs.Pairs.{hex-length}
 use Rattle.numbers.specs.Numbers.{number_count}
@@ -24,32 +21,12 @@ use Rattle.console_outcome.specs.declared.outcome.Printed.{Printed}
 use Rattle.console_outcome.specs.declared.outcome.Printed.TheVariants.{Nothing, Front}
 use Rattle.console_outcome.specs.declared.outcome.Outcome.{Outcome}
 
--- ---- the pieces, by the tests that their code makes
-pub no-space : {some : Bool} {at : ℕ} {out : List ℕ} → some ≡ false → Put (space_after some) at out out at
-no-space e = rw e (record { stored = refl; index = omega arith })
-
-module _ {at next : ℕ} {before after : List ℕ} where
-  pub space : {some : Bool} → some ≡ true → Put (32 ∷ []) at before after next → Put (space_after some) at before after next
-  space e p = rw e p
-
-  pub as-signed : {signed : Bool} (n : ℕ) (z : ℤ) → signed ≡ true → z ≡ integer_of n → Put (signed_decimal z) at before after next →
-      Put (number_text signed n) at before after next
-  as-signed n z e q p = rw (e, sym q) p
-
-  pub as_plain : {signed : Bool} (n : ℕ) → signed ≡ false → Put (decimal_of n) at before after next → Put (number_text signed n) at before after next
-  as_plain n e p = rw e p
-
-  module _ (some : Bool) {bytes : Printed} (buffer : List ℕ) where
-    pub no_bytes : bytes ≡ Nothing → some ≡ true → Put (10 ∷ []) at before after next → Put (end_by some (part_of bytes buffer)) at before after next
-    no_bytes q e p = rw (q, e) p
-
-    pub only-ok : bytes ≡ Nothing → some ≡ false → Put (ascii "ok\n") at before after next → Put (end_by some (part_of bytes buffer)) at before after next
-    only-ok q e p = rw (q, e) p
-
-    pub some_bytes : {count spaced hexed : ℕ} {front one two : List ℕ} → bytes ≡ Front count → front ≡ take count buffer →
-        Put (space_after some) at before one spaced → Put (hex_of front) spaced one two hexed → Put (10 ∷ []) hexed two after next →
-        Put (end_by some (part_of bytes buffer)) at before after next
-    some_bytes q e p h l = rw (q, sym e) (put-append p (put-append h l))
+-- ---- bytes, with a space before them where something stands there, and the end of the line
+pub some_bytes : (some : Bool) {bytes : Printed} (buffer : List ℕ) {at count spaced hexed next : ℕ} {before front one two after : List ℕ} →
+    bytes ≡ Front count → front ≡ take count buffer →
+    Put (space_after some) at before one spaced → Put (hex_of front) spaced one two hexed → Put (10 ∷ []) hexed two after next →
+    Put (end_by some (part_of bytes buffer)) at before after next
+some_bytes some buffer q e p h l = rw (q, sym e) (put-append p (put-append h l))
 
 -- ---- number by number
 module _ (signed : Bool) (numbers : List ℕ) (i : ℕ) where

@@ -5,7 +5,7 @@ ghost use Rattle.console_outcome.specs.Outcome.{with_state, with_galley};
 use galley_rules::Galley;
 use rules::State;
 
-#[derive(Drop)]
+#[derive(Clone, Copy)]
 pub struct Hand {
     pub state: State,
     pub galley: Galley,

@@ -12,14 +12,14 @@ pub const BUFFER_BYTES: usize = 2048;
 pub const UNTOUCHED: u8 = 0xA5;
 
 // The bytes that are printed: none, or so many from the front of the buffer.
-#[derive(Drop)]
+#[derive(Clone, Copy)]
 pub enum Printed {
     Nothing,
     Front(usize),
 }
 
 // So many of the numbers are printed, as signed ones or not, and then the bytes.
-#[derive(Drop)]
+#[derive(Clone, Copy)]
 pub struct Outcome {
     pub hand: Hand,
     pub numbers: [u32; STATE_NUMBERS],

@@ -1,4 +1,6 @@
 // `show`: the state for a person to read. Each text promises a frame: what stands before it stays, and how long it is at most.
+#![tactic(auto)]
+
 ghost use Rattle.console_text.specs.Frame.{Frame};
 
 use console_form::{put_either, put_form, put_seconds, put_text, put_valid};

@@ -3,14 +3,14 @@ use Prim.Native.Nat.{ℕ, ◌+◌}
 use mathlib.Core.Path.{◌≡◌, refl, sym, ap, ◌∙◌}
 use mathlib.Core.Bool.{Bool, true, false, not, ◌&&◌}
 use mathlib.Core.List.{List, [], ◌∷◌, Memᴰ}
-use native.Mathlib.Omega.{arith}
 use Rattle.rules.specs.Basics.{every}
-use Rattle.rules.proofs.Tests.{and_left, and_right, by-test}
+use Rattle.rules.proofs.Tests.{and_left, and_right}
 use Rattle.console_text.specs.Words.{run_of}
 use Rattle.console_table.specs.Table.{Row, commands, name_of, same_bytes, known, named_among}
-use Rattle.console_table.proofs.Words.{same_self, same-equal}
+use Rattle.console_table.proofs.Words.{same_self}
 
 pub every-member : {A : Type 0} (test : A → Bool) {x : A} (xs : List A) → every test xs ≡ true → Memᴰ x xs → test x ≡ true
+every-member test [] e m = elim m [ ]
 every-member test (y ∷ xs) e (Memᴰ.head p) = ap test p ∙ and_left (test y) (every test xs) e
 every-member test (y ∷ xs) e (Memᴰ.tail m) = every-member test xs (and_right (test y) (every test xs) e) m
 
@@ -30,6 +30,7 @@ not-true false e = refl
 -- ---- a row of the table is named by its name, wherever it stands
 pub named-by-name : (rows : List Row) (i : ℕ) {row : Row} → differ rows ≡ true → Memᴰ row rows → (j : ℕ) × (named_among rows i (name_of row) ≡ known j row)
 unfolding named_among
+named-by-name [] i d m = elim m [ ]
 named-by-name (r ∷ rows) i d (Memᴰ.head e) = (i, rw (e, same_self (name_of r)))
 named-by-name (r ∷ rows) i {row} d (Memᴰ.tail m) =
     let apart = every-member (λ other. not (same_bytes (name_of other) (name_of r))) rows (and_left _ (differ rows) d) m in

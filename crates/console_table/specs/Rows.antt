@@ -1,6 +1,5 @@
 -- The table's rows as the source holds them, and what a search gives.
-use Rattle.std.specs.Prelude.{ℕ, ◌+◌, ◌-◌, ◌^◌, ◌≤◌, ◌<◌, ◌≡◌, Bool, true, List, [], ◌∷◌, ◌++◌, map, length, get_or, take, replicate, leb, ltb}
-use Rattle.rules.specs.Basics.{if◌then◌else◌}
+use Rattle.std.specs.Prelude.{ℕ, ◌+◌, ◌-◌, ◌^◌, ◌≤◌, ◌<◌, ◌≡◌, Bool, true, List, [], ◌∷◌, ◌++◌, map, length, get_or, take, replicate, leb, ltb, if◌then◌else◌}
 use Rattle.console_table.specs.declared.Asks.{Asks}
 use Rattle.console_table.specs.declared.Parameter.{Parameter}
 use Rattle.console_table.specs.declared.Parameter.TheVariants.{Number, Signed, Bytes}

@@ -1,7 +1,6 @@
 -- The table of the commands: "| Line | Answer |".
-use Rattle.std.specs.Prelude.{ℕ, ◌+◌, Bool, true, false, ◌&&◌, List, [], ◌∷◌, ◌++◌, map, get_or, take, eqb}
+use Rattle.std.specs.Prelude.{ℕ, ◌+◌, Bool, true, false, ◌&&◌, List, [], ◌∷◌, ◌++◌, map, get_or, take, eqb, if◌then◌else◌}
 use Prim.Native.String.{String}
-use Rattle.rules.specs.Basics.{if◌then◌else◌}
 use Rattle.console_text.specs.Ascii.{ascii}
 use Rattle.console_text.specs.Words.{run_of}
 use Rattle.console_table.specs.declared.Kind.TheVariants as kind

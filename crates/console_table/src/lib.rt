@@ -1,4 +1,6 @@
 // The table of the commands, and the row that a word names.
+#![tactic(auto)]
+
 ghost use Rattle.std.specs.Prelude.{◌≡◌, ◌<◌, ◌≤◌, length, take};
 ghost use Rattle.lent.specs.Put.{Put};
 ghost use Rattle.console_table.specs.Table.{access_rows, event_rows, state_rows, string_rows, galley_rows, commands, same_bytes, named_by, usage_at};
@@ -9,7 +11,7 @@ use lent::{front, put};
 use numbers::STATE_NUMBERS;
 
 // The kinds of the calls that are handed a state, which are those of the records of order strings.
-#[derive(Drop)]
+#[derive(Clone, Copy)]
 pub enum Kind {
     Write,
     Read,
@@ -21,7 +23,7 @@ pub enum Kind {
 }
 
 // What else a line asks for and is answered with numbers and bytes.
-#[derive(Drop)]
+#[derive(Clone, Copy)]
 pub enum Verb {
     Start,
     FanFail,
@@ -36,7 +38,7 @@ pub enum Verb {
 }
 
 // What is answered with a text of its own, and leaves what is in hand.
-#[derive(Drop)]
+#[derive(Clone, Copy)]
 pub enum View {
     Cabin,
     Speed,
@@ -49,7 +51,7 @@ pub enum View {
 }
 
 // What a line asks for: a call by its kind, something else, or a text.
-#[derive(Drop)]
+#[derive(Clone, Copy)]
 pub enum Request {
     Call(Kind),
     Verb(Verb),
@@ -57,7 +59,7 @@ pub enum Request {
 }
 
 // What a command asks for, or that it asks for the record of the call that follows, with the words that it has.
-#[derive(Drop)]
+#[derive(Clone, Copy)]
 pub enum Asks {
     For(Request),
     Record,
@@ -65,14 +67,14 @@ pub enum Asks {
 
 // A parameter of a command: a number, with the largest that it may be; a signed number, the smallest being one further from 0
 // than the largest; or bytes.
-#[derive(Drop)]
+#[derive(Clone, Copy)]
 pub enum Parameter {
     Number(u32),
     Signed(u32),
     Bytes,
 }
 
-#[derive(Drop)]
+#[derive(Clone, Copy)]
 pub struct Command {
     // How it is written: so many bytes.
     pub usage: [u8; 51],
@@ -85,7 +87,7 @@ pub struct Command {
 }
 
 // A row and its place in the table, counted from 0; a place past the last row where there is none.
-#[derive(Drop)]
+#[derive(Clone, Copy)]
 pub struct Found {
     pub place: usize,
     pub row: Command,

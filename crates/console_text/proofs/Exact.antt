@@ -14,7 +14,7 @@ use lib.Ieee.{Float, nan, inf, fin, up, down, neg, le, lt, eq}
 use lib.Ieee.Exact.{HasValue}
 use lib.Ieee.Fits.{down_pos}
 use borrow.Author.Tests.{lt-ltb, le-ltb, le-leb, lt-leb, eq-eqb, ne_eqb}
-use Rattle.rules.specs.Basics.{if◌then◌else◌}
+use Rattle.std.specs.Prelude.{if◌then◌else◌}
 use Rattle.rules.specs.Reading.{over512}
 use Rattle.laws.proofs.Exact.{over-512-exact}
 use Rattle.console_text.specs.Fraction.{parts_after, parts_of, three_decimals, eighths_text, signed_eighths}

@@ -1,5 +1,5 @@
 -- Signed numbers: what the machine reads back from 32 bits, and the way there and back between a number and its bits.
-use Prim.Native.Nat.{ℕ, zero, suc, ◌+◌, ◌-◌, ◌%◌, ◌^◌, ◌<◌, ◌≤◌}
+use Prim.Native.Nat.{ℕ, zero, suc, ◌-◌, ◌%◌, ◌^◌, ◌<◌, ◌≤◌}
 use mathlib.Core.Path.{◌≡◌, refl, sym, ap, ◌∙◌, subst}
 use mathlib.Core.Bool.{true, false}
 use mathlib.Core.List.{◌∷◌}
@@ -7,9 +7,9 @@ use native.Mathlib.Decide.{dec_lt}
 use native.Mathlib.Omega.{arith}
 use lib.IntN.{ℤ, pos, negsuc, ◌-ℤ◌, nat_abs}
 use lib.Dec.{T}
-use lib.Signed.{mag, lt_z, non_neg}
+use lib.Signed.{mag, lt_z}
 use mir.Syntax.{Width, w16, w32}
-use mir.Val.{hbits, Fits, SFits, to_z, of_z}
+use mir.Val.{hbits, SFits, to_z, of_z}
 use mir.ValLaws.{to_z_pos, to_z-of_z}
 use borrow.Author.Tests.{lt-ltb, le-ltb}
 use Rattle.console_text.specs.Decimal.{decimal_of}
@@ -20,9 +20,6 @@ use Rattle.console_text.specs.Signed.{bits_of, integer_of, short_of, signed_deci
 minus-one-less : (n : ℕ) → negsuc 0 -ℤ pos n ≡ negsuc n
 minus-one-less zero = refl
 minus-one-less (suc n) = ap negsuc (omega arith)
-
-minus-one-more : (n : ℕ) → negsuc 0 -ℤ negsuc n ≡ pos n
-minus-one-more n = rw (le-ltb (suc n) 1 (omega arith)) (ap pos (omega arith))
 
 -- ---- from bits
 module _ (w : Width) (k : ℕ) (h : k < 2 ^ hbits w) where
@@ -67,48 +64,9 @@ short_back (negsuc n) h =
     let back : 65_535 - (65_535 - n) ≡ n = omega arith in
     rw (low, le-ltb (65_535 - n) 32_768 (omega arith), back)
 
--- ---- how far from 0
-from-minus-one : (z : ℤ) → lt_z z (pos 0) ≡ true → negsuc 0 -ℤ z ≡ pos (mag z)
-from-minus-one (pos n) t = let h = le-ltb n 0 (omega arith) in absurd (subst T (sym t ∙ h) tt)
-from-minus-one (negsuc n) t = minus-one-more n
-
-one_further : (z : ℤ) → lt_z z (pos 0) ≡ true → mag z + 1 ≡ nat_abs z
-one_further (pos n) t = let h = le-ltb n 0 (omega arith) in absurd (subst T (sym t ∙ h) tt)
-one_further (negsuc n) t = omega arith
-
-not-below : (z : ℤ) → lt_z z (pos 0) ≡ false → SFits w32 z → T (non_neg z) × Fits w32 (nat_abs z)
-not-below (pos n) t f = (tt, record { fits = omega (arith, f.sfits) })
-not-below (negsuc n) t f = absurd (subst T t tt)
-
--- of what the machine reads back
-module _ (z : ℤ) (f : SFits w32 z) where
-  back : to_z w32 (of_z w32 z) ≡ z
-  back = to_z-of_z w32 z f
-
-  pub not_negative : lt_z (to_z w32 (of_z w32 z)) (pos 0) ≡ false → T (non_neg (to_z w32 (of_z w32 z))) × Fits w32 (nat_abs (to_z w32 (of_z w32 z)))
-  not_negative t = rw back (not-below z (rw back at t) f)
-
-  pub distance-plain : nat_abs (to_z w32 (of_z w32 z)) ≡ nat_abs z
-  distance-plain = ap nat_abs back
-
-  module _ (t : lt_z (to_z w32 (of_z w32 z)) (pos 0) ≡ true) where
-    below : lt_z z (pos 0) ≡ true
-    below = rw back at t
-
-    pub negative_fits : SFits w32 (negsuc 0 -ℤ to_z w32 (of_z w32 z))
-    negative_fits = rw (back, from-minus-one z below) (record { sfits = f.sfits })
-
-    distance : to_z w32 (of_z w32 (negsuc 0 -ℤ to_z w32 (of_z w32 z))) ≡ pos (mag z)
-    distance = to_z-of_z w32 (negsuc 0 -ℤ to_z w32 (of_z w32 z)) negative_fits ∙ rw back (from-minus-one z below)
-
-    pub negative-casts : T (non_neg (to_z w32 (of_z w32 (negsuc 0 -ℤ to_z w32 (of_z w32 z))))) × Fits w32 (nat_abs (to_z w32 (of_z w32 (negsuc 0 -ℤ to_z w32 (of_z w32 z)))))
-    negative-casts = rw distance (tt, record { fits = omega (arith, f.sfits) })
-
-    pub negative_adds : Fits w32 (nat_abs (to_z w32 (of_z w32 (negsuc 0 -ℤ to_z w32 (of_z w32 z)))) + 1)
-    negative_adds = rw distance (record { fits = omega (arith, f.sfits) })
-
-    pub negative-distance : nat_abs (to_z w32 (of_z w32 (negsuc 0 -ℤ to_z w32 (of_z w32 z)))) + 1 ≡ nat_abs z
-    negative-distance = rw distance (one_further z below)
+-- ---- how far from 0, of what the machine reads back
+pub distance-plain : (z : ℤ) → SFits w32 z → nat_abs (to_z w32 (of_z w32 z)) ≡ nat_abs z
+distance-plain z f = ap nat_abs (to_z-of_z w32 z f)
 
 -- ---- as text: what is put of a number below 0, and of any other
 signed_by : {A : Type 0} (below : ℕ → A) (f : ℤ → A) → ((n : ℕ) → below (suc n) ≡ f (negsuc n)) → (z : ℤ) → SFits w32 z →
@@ -130,15 +88,6 @@ plain_by whole f e z fits t = go z (rw (to_z-of_z w32 z fits) at t)
 module _ (z : ℤ) (f : SFits w32 z) where
   pub sign-put : lt_z (to_z w32 (of_z w32 z)) (pos 0) ≡ true → 45 ∷ decimal_of (nat_abs z) ≡ signed_decimal z
   sign-put = signed_by (λ n. 45 ∷ decimal_of n) signed_decimal (λ n. refl) z f
-
-  pub no_sign : lt_z (to_z w32 (of_z w32 z)) (pos 0) ≡ false → decimal_of (nat_abs z) ≡ signed_decimal z
-  no_sign = plain_by (λ n. decimal_of n) signed_decimal (λ n. refl) z f
-
-  pub bits_below : lt_z (to_z w32 (of_z w32 z)) (pos 0) ≡ true → 4_294_967_295 - (nat_abs z - 1) ≡ bits_of z
-  bits_below = signed_by (λ n. 4_294_967_295 - (n - 1)) bits_of (λ n. omega arith) z f
-
-  pub bits-plain : lt_z (to_z w32 (of_z w32 z)) (pos 0) ≡ false → nat_abs z ≡ bits_of z
-  bits-plain = plain_by (λ n. n) bits_of (λ n. refl) z f
 
   pub sign-put-eighths : lt_z (to_z w32 (of_z w32 z)) (pos 0) ≡ true → 45 ∷ three_decimals (nat_abs z) ≡ signed_eighths z
   unfolding signed_eighths

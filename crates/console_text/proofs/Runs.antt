@@ -145,17 +145,6 @@ module _ (line : List ℕ) (from begin : ℕ) (skipped : begin ≡ from + run_of
           lies = (omega arith, omega (arith, some_byte), omega (arith, run-within false (drop begin line), length-drop begin line));
         }
 
--- ---- counting words
-module _ {line : List ℕ} {at : ℕ} {word : Word} (finds : Finds line at word) where
-  pub no_word : word ≡ Nothing → length (words_of (drop at line)) ≡ 0
-  no_word e = ap length (rw e at finds.words)
-
-  pub one_word : {begin end : ℕ} → word ≡ At begin end →
-      (at < end) × (end ≤ length line) × (length (words_of (drop at line)) ≡ suc (length (words_of (drop end line))))
-  one_word e =
-      let lies = rw e at finds.lies in
-      (omega arith, lies.2, ap length (rw e at finds.words))
-
 -- ---- a word that was found
 module _ {line : List ℕ} {from : ℕ} {word : Word} (finds : Finds line from word) where
   pub found_none : word ≡ Nothing → words_of (drop from line) ≡ []
@@ -164,6 +153,3 @@ module _ {line : List ℕ} {from : ℕ} {word : Word} (finds : Finds line from w
   module _ {begin end : ℕ} (e : word ≡ At begin end) where
     pub found_first : words_of (drop from line) ≡ take (end - begin) (drop begin line) ∷ words_of (drop end line)
     found_first = rw e at finds.words
-
-    pub found_within : (begin < end) × (end ≤ length line)
-    found_within = let lies = rw e at finds.lies in (lies.1, lies.2)

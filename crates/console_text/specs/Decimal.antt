@@ -1,6 +1,5 @@
 -- A number as decimal digits.
-use Rattle.std.specs.Prelude.{ℕ, zero, suc, ◌+◌, ◌-◌, ◌/◌, ◌%◌, ◌&&◌, List, [], ◌∷◌, ◌++◌, eqb}
-use Rattle.rules.specs.Basics.{if◌then◌else◌}
+use Rattle.std.specs.Prelude.{ℕ, zero, suc, ◌+◌, ◌-◌, ◌/◌, ◌%◌, ◌&&◌, List, [], ◌∷◌, ◌++◌, eqb, if◌then◌else◌}
 
 -- the digits of n, where there is room for so many: no zero in front but for those that make up the least number of digits
 unfoldable pub digits_within : ℕ → ℕ → ℕ → List ℕ

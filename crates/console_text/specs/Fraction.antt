@@ -1,8 +1,7 @@
 -- An f64 in decimal, where it counts 512ths or eighths: "each with exactly nine decimals, as `8388607.998046875`, `0.996093750`, `1.000000000`".
-use Rattle.std.specs.Prelude.{ℕ, zero, suc, ◌+◌, ◌*◌, ◌/◌, ◌%◌, ◌^◌, false, List, ◌∷◌, ◌++◌, ℤ, pos, negsuc, Float}
+use Rattle.std.specs.Prelude.{ℕ, zero, suc, ◌+◌, ◌*◌, ◌/◌, ◌%◌, ◌^◌, false, List, ◌∷◌, ◌++◌, ℤ, pos, negsuc, Float, if◌then◌else◌}
 use Rattle.std.specs.Float.{fin}
 use Rattle.std.specs.Float.Ieee.{neg, lt, le}
-use Rattle.rules.specs.Basics.{if◌then◌else◌}
 use Rattle.rules.specs.Reading.{over512}
 use Rattle.console_text.specs.Decimal.{digits_of, decimal_of}
 

@@ -1,6 +1,5 @@
 -- "A **signed** number is decimal with `-` before it where it is negative, -2,147,483,648 to 2,147,483,647; hexadecimal has no sign."
-use Rattle.std.specs.Prelude.{ℕ, suc, ◌-◌, ◌%◌, List, ◌∷◌, get_or, drop, eqb, ltb, ℤ, pos, negsuc}
-use Rattle.rules.specs.Basics.{if◌then◌else◌}
+use Rattle.std.specs.Prelude.{ℕ, suc, ◌-◌, ◌%◌, List, ◌∷◌, get_or, drop, eqb, ltb, ℤ, pos, negsuc, if◌then◌else◌}
 use Rattle.console_text.specs.declared.number.Number.{Number}
 use Rattle.console_text.specs.declared.number.Number.TheVariants as number
 use Rattle.console_text.specs.declared.signed.Signed.{Signed}

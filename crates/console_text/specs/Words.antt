@@ -1,7 +1,6 @@
 -- The words of a line.
-use Rattle.std.specs.Prelude.{ℕ, suc, ◌-◌, ◌≤◌, ◌<◌, ◌≡◌, Bool, true, ◌||◌, List, [], ◌∷◌, length, get_or, take, drop, eqb, ltb}
+use Rattle.std.specs.Prelude.{ℕ, suc, ◌-◌, ◌≤◌, ◌<◌, ◌≡◌, Bool, true, ◌||◌, List, [], ◌∷◌, length, get_or, take, drop, eqb, ltb, if◌then◌else◌}
 use Rattle.std.specs.Bool.{beq}
-use Rattle.rules.specs.Basics.{if◌then◌else◌}
 use Rattle.console_text.specs.declared.gathered.Ended.{Ended}
 use Rattle.console_text.specs.declared.gathered.Ended.TheVariants.{Skipped, TooLong, Whole}
 use Rattle.console_text.specs.declared.line.Word.{Word}

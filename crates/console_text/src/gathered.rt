@@ -10,14 +10,14 @@ const LONGEST: usize = 4096;
 
 // A line as far as it was read: the bytes kept, which are those from its first word on, as many as there is room for, and
 // how many it has in all, which is counted up to two more than a call can have.
-#[derive(Drop)]
+#[derive(Clone, Copy)]
 pub struct Gathered {
     pub kept: usize,
     pub total: usize,
 }
 
 // What a line is that has ended: one that answers nothing, one longer than a call can be, or so many bytes.
-#[derive(Drop)]
+#[derive(Clone, Copy)]
 pub enum Ended {
     Skipped,
     TooLong,

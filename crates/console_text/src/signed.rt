@@ -11,7 +11,7 @@ use lent::put;
 
 // What a word is as a signed number. `Plus(n)` is n, and `Minus(n)` is -(n + 1), so that one bound holds a range: that of an
 // i32 is each of the two below 2,147,483,648.
-#[derive(Drop)]
+#[derive(Clone, Copy)]
 pub enum Signed {
     Plus(u32),
     Minus(u32),

@@ -1,13 +1,16 @@
 // Makes many calls of one kind, for counting instructions: cost/count runs it. Two letters of input choose the state and the
 // call.
-use libc::{STDIN_FILENO, STDOUT_FILENO};
+#![tactic(auto)]
+
 use rules::State;
+use std::io;
+use std::io::Read;
 use ticks::pass_ticks;
 
 const CALLS: u32 = 10000;
 
 // All that a call gives: nothing of it can be left out as unused.
-#[derive(Drop)]
+#[derive(Clone, Copy)]
 struct Given {
     number: u32,
     state: State,
@@ -88,7 +91,7 @@ fn asking(state: State) -> Given {
     let answer = fan_fail::fan_fail(state);
     let next = answer.state;
     Given {
-        number: std::num::wrapping_add_u32(answer.failed, answer.lowest),
+        number: answer.failed.wrapping_add(answer.lowest),
         state: next,
     }
 }
@@ -145,20 +148,20 @@ fn sum_of(state: State, letter: u8) -> u64 {
     while i < CALLS {
         next.timer.clock = i;
         let given = call(next, letter);
-        sum = std::num::wrapping_add_u64(sum, given.state.timer.clock as u64);
-        sum = std::num::wrapping_add_u64(sum, given.number as u64);
+        sum = sum.wrapping_add(given.state.timer.clock as u64);
+        sum = sum.wrapping_add(given.number as u64);
         i += 1;
     }
     sum
 }
 
-fn main() {
+fn main(rt: HostRuntime) -> io::Result<()> {
     let mut text = [0u8; 2];
-    io::read_full(STDIN_FILENO, &mut text);
+    // A letter that the input lacks stays 0.
+    let _ = rt.stdin().read_exact(&mut text);
     // One call first: with two places that call it, `call` stays a function that can be counted in.
     let first = call(state_of(text[0]), text[1]);
     let state = state_of(text[0]);
-    let sum = std::num::wrapping_add_u64(first.number as u64, sum_of(state, text[1]));
-    io::print_decimal(STDOUT_FILENO, sum);
-    io::write_all(STDOUT_FILENO, b"\n");
+    let sum = (first.number as u64).wrapping_add(sum_of(state, text[1]));
+    println!(rt; "{sum}")
 }

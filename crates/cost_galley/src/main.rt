@@ -1,9 +1,12 @@
 // Takes one sample many times, or makes the six writes of a sample that changes every target, for counting instructions: cost/count
 // runs it. Two letters of input choose which, and are the bytes of the table. It stands apart from `cost`, so that no call there is laid
 // out otherwise.
+#![tactic(auto)]
+
 use galley_rules::Galley;
-use libc::{STDIN_FILENO, STDOUT_FILENO};
 use rules::State;
+use std::io;
+use std::io::Read;
 
 const CALLS: u32 = 10000;
 
@@ -11,7 +14,7 @@ const CALLS: u32 = 10000;
 const TARGET: u32 = 194;
 
 // All that a call gives: nothing of it can be left out as unused.
-#[derive(Drop)]
+#[derive(Clone, Copy)]
 struct Given {
     number: u32,
     state: State,
@@ -65,25 +68,22 @@ fn sum_of(galley: Galley, state: State, letter: u8, table: &[u8]) -> u64 {
     while i < CALLS {
         next.timer.clock = i;
         let given = call(galley, next, letter, table);
-        sum = std::num::wrapping_add_u64(sum, given.state.timer.clock as u64);
-        sum = std::num::wrapping_add_u64(sum, given.number as u64);
+        sum = sum.wrapping_add(given.state.timer.clock as u64);
+        sum = sum.wrapping_add(given.number as u64);
         i += 1;
     }
     sum
 }
 
-fn main() {
+fn main(rt: HostRuntime) -> io::Result<()> {
     let mut text = [0u8; 2];
-    io::read_full(STDIN_FILENO, &mut text);
+    // A letter that the input lacks stays 0.
+    let _ = rt.stdin().read_exact(&mut text);
     let table = [text[1]; 48];
     let galley = galley::fresh(640, 720, false, false).galley;
     let state = start::start(1, 0, TARGET, 0x11, 0).state;
     // One call first: with two places that call it, `call` stays a function that can be counted in.
     let first = call(galley, state, text[0], &table);
-    let sum = std::num::wrapping_add_u64(
-        first.number as u64,
-        sum_of(galley, state, text[0], &table),
-    );
-    io::print_decimal(STDOUT_FILENO, sum);
-    io::write_all(STDOUT_FILENO, b"\n");
+    let sum = (first.number as u64).wrapping_add(sum_of(galley, state, text[0], &table));
+    println!(rt; "{sum}")
 }

@@ -1,13 +1,16 @@
 // Reports one pulse many times, for counting instructions: cost/count runs it. A letter of input chooses the state. It stands apart from
 // `cost`, so that no call there is laid out otherwise.
-use libc::{STDIN_FILENO, STDOUT_FILENO};
+#![tactic(auto)]
+
 use rules::State;
+use std::io;
+use std::io::Read;
 use ticks::pass_ticks;
 
 const CALLS: u32 = 10000;
 
 // All that a call gives: nothing of it can be left out as unused.
-#[derive(Drop)]
+#[derive(Clone, Copy)]
 struct Given {
     number: u32,
     state: State,
@@ -49,16 +52,16 @@ fn sum_of(state: State) -> u64 {
     while i < CALLS {
         next.timer.clock = i;
         let given = call(next);
-        sum = std::num::wrapping_add_u64(sum, given.state.timer.clock as u64);
-        sum = std::num::wrapping_add_u64(sum, given.number as u64);
+        sum = sum.wrapping_add(given.state.timer.clock as u64);
+        sum = sum.wrapping_add(given.number as u64);
         i += 1;
     }
     sum
 }
 
-fn main() {
+fn main(rt: HostRuntime) -> io::Result<()> {
     let mut text = [0u8; 1];
-    io::read_full(STDIN_FILENO, &mut text);
-    io::print_decimal(STDOUT_FILENO, sum_of(state_of(text[0])));
-    io::write_all(STDOUT_FILENO, b"\n");
+    // A letter that the input lacks stays 0.
+    let _ = rt.stdin().read_exact(&mut text);
+    println!(rt; "{}", sum_of(state_of(text[0])))
 }

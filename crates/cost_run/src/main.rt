@@ -1,7 +1,10 @@
 // Makes 64 calls in one run of an order string, or the same calls one by one, many times, for counting instructions: cost/count
 // runs it. A letter of input chooses which. It stands apart from `cost`, so that no call there is made from two places.
-use libc::{STDIN_FILENO, STDOUT_FILENO};
+#![tactic(auto)]
+
 use rules::{Call, State};
+use std::io;
+use std::io::Read;
 
 const TIMES: u32 = 1000;
 
@@ -26,7 +29,7 @@ const LISTED: [Call; 16] = [
 ];
 
 // All that the calls give: nothing of it can be left out as unused.
-#[derive(Drop)]
+#[derive(Clone, Copy)]
 struct Given {
     number: u32,
     state: State,
@@ -53,7 +56,7 @@ fn running(state: State, string: &[u8]) -> Given {
     let ran = orders::run(state, string, 64, &mut answers);
     let next = ran.state;
     Given {
-        number: std::num::wrapping_add_u32(ran.taken, widened(answers[0])),
+        number: ran.taken.wrapping_add(widened(answers[0])),
         state: next,
     }
 }
@@ -66,7 +69,7 @@ fn one_by_one(state: State) -> Given {
     let mut i: usize = 0;
     while i < 64 {
         let made = calls::make(next, calls[i % 16]);
-        sum = std::num::wrapping_add_u32(sum, widened(made.byte));
+        sum = sum.wrapping_add(widened(made.byte));
         next = made.state;
         i += 1;
     }
@@ -92,25 +95,22 @@ fn sum_of(state: State, letter: u8, string: &[u8]) -> u64 {
     while i < TIMES {
         next.timer.clock = i;
         let given = call(next, letter, string);
-        sum = std::num::wrapping_add_u64(sum, given.state.timer.clock as u64);
-        sum = std::num::wrapping_add_u64(sum, given.number as u64);
+        sum = sum.wrapping_add(given.state.timer.clock as u64);
+        sum = sum.wrapping_add(given.number as u64);
         i += 1;
     }
     sum
 }
 
-fn main() {
+fn main(rt: HostRuntime) -> io::Result<()> {
     let mut text = [0u8; 1];
-    io::read_full(STDIN_FILENO, &mut text);
+    // A letter that the input lacks stays 0.
+    let _ = rt.stdin().read_exact(&mut text);
     let mut string = [0u8; 192];
     put_64(&mut string);
     let begun = start::start(0, 0, 511, 0x11, 0);
     // Once first: with two places that call it, `call` stays a function that can be counted in.
     let first = call(begun.state, text[0], &string);
-    let sum = std::num::wrapping_add_u64(
-        first.number as u64,
-        sum_of(begun.state, text[0], &string),
-    );
-    io::print_decimal(STDOUT_FILENO, sum);
-    io::write_all(STDOUT_FILENO, b"\n");
+    let sum = (first.number as u64).wrapping_add(sum_of(begun.state, text[0], &string));
+    println!(rt; "{sum}")
 }

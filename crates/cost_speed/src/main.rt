@@ -1,7 +1,10 @@
 // Works out one speed many times, for counting instructions: cost/count runs it. Five letters of input spell it. It stands apart from
 // `cost`, so that no call there is laid out otherwise.
-use libc::{STDIN_FILENO, STDOUT_FILENO};
+#![tactic(auto)]
+
 use rules::Speed;
+use std::io;
+use std::io::Read;
 
 const CALLS: u32 = 10000;
 
@@ -29,15 +32,15 @@ fn sum_of_speeds(letters: [u8; 5]) -> u64 {
     let mut i: u32 = 0;
     while i < CALLS {
         let speed = speed_of(range, pulses, count | (i & joined));
-        sum = std::num::wrapping_add_u64(sum, speed as u64);
+        sum = sum.wrapping_add(speed as u64);
         i += 1;
     }
     sum
 }
 
-fn main() {
+fn main(rt: HostRuntime) -> io::Result<()> {
     let mut letters = [0u8; 5];
-    io::read_full(STDIN_FILENO, &mut letters);
-    io::print_decimal(STDOUT_FILENO, sum_of_speeds(letters));
-    io::write_all(STDOUT_FILENO, b"\n");
+    // A letter that the input lacks stays 0.
+    let _ = rt.stdin().read_exact(&mut letters);
+    println!(rt; "{}", sum_of_speeds(letters))
 }

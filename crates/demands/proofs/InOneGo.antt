@@ -8,7 +8,8 @@ use lib.ListN.{replicate}
 use lib.Seq.{get_or-set_same, get_or-set_other}
 use borrow.Author.Tests.{ne_eqb}
 use Rattle.demands.specs.Types.{Channel, State, WordRegister, Target, TargetCount, Call, Ticks, WriteWord}
-use Rattle.rules.specs.Basics.{if◌then◌else◌, flag}
+use Rattle.std.specs.Prelude.{if◌then◌else◌}
+use Rattle.rules.specs.Basics.{flag}
 use Rattle.rules.specs.State.{blank, channel, results, start_values, timer, with_motion, with_results, with_settings, with_channels, with_timer}
 use Rattle.rules.specs.Words.{shown_in, left_justified, word_byte}
 use Rattle.rules.specs.Map.{target_at, place_at, target_address}

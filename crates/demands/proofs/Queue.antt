@@ -9,7 +9,8 @@ use lib.ListN.{length, get_or, set, replicate, length-set}
 use lib.Seq.{get_or-set_same}
 use borrow.Author.Tests.{le-leb, lt-leb, leb-true, leb-false}
 use Rattle.demands.specs.Types.{Channel, Results, State, Conditions, Override, None, Duty}
-use Rattle.rules.specs.Basics.{if◌then◌else◌, some}
+use Rattle.std.specs.Prelude.{if◌then◌else◌}
+use Rattle.rules.specs.Basics.{some}
 use Rattle.rules.specs.State.{blank, channel, results, results_of, with_results}
 use Rattle.rules.specs.Registers.{monitor_only, tachometer_enabled, queue_code}
 use Rattle.rules.specs.Duty.{conditions_of, override_of, duty_under, output_duty}

@@ -1,8 +1,7 @@
 -- Demand 3, and "Quiet spans": what passes in a list of calls, each given the state that the one before left, with nothing between. A
 -- list gives the ticks of each call; the paper calls a call a jump, and the list a quiet span. K7: "A pulse breaks a quiet span", as any call but a jump does.
-use Rattle.std.specs.Prelude.{ℕ, ◌+◌, ◌-◌, ◌*◌, ◌/◌, ◌^◌, ◌<◌, ◌≡◌, true, false, List, [], ◌∷◌, map, ltb}
+use Rattle.std.specs.Prelude.{ℕ, ◌+◌, ◌-◌, ◌*◌, ◌/◌, ◌^◌, ◌<◌, ◌≡◌, true, false, List, [], ◌∷◌, map, ltb, if◌then◌else◌}
 use Rattle.demands.specs.Types.{Channel, State, ReadAnswer, Ticks}
-use Rattle.rules.specs.Basics.{if◌then◌else◌}
 use Rattle.rules.specs.State.{channel}
 use Rattle.rules.specs.Registers.{rate_code, watchdog_code, delay_code}
 use Rattle.rules.specs.Duty.{conditions_of, output_duty}

@@ -1,7 +1,6 @@
 -- K6, "Target in one go": "Writing the high byte and then the low one gave a moment at a wrong target, and spin-up started from it."
-use Rattle.std.specs.Prelude.{ℕ, ◌≡◌, Bool, true, false, List, [], ◌∷◌, map}
+use Rattle.std.specs.Prelude.{ℕ, ◌≡◌, Bool, true, false, List, [], ◌∷◌, map, if◌then◌else◌}
 use Rattle.demands.specs.Types.{Channel, State, WordRegister, Target, TargetCount, ReadAnswer, WriteWord}
-use Rattle.rules.specs.Basics.{if◌then◌else◌}
 use Rattle.rules.specs.State.{channel}
 use Rattle.rules.specs.Registers.{target_count}
 use Rattle.rules.specs.Words.{left_justified, shown_in}

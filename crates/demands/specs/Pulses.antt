@@ -1,7 +1,6 @@
 -- K7, "Spin-up that stops when the fan turns": what pulses do in a box of modification A, and in one of modification B.
-use Rattle.std.specs.Prelude.{ℕ, ◌+◌, ◌-◌, ◌≤◌, ◌<◌, ◌≡◌, Bool, true, false, List, [], ◌∷◌}
+use Rattle.std.specs.Prelude.{ℕ, ◌+◌, ◌-◌, ◌≤◌, ◌<◌, ◌≡◌, Bool, true, false, List, [], ◌∷◌, if◌then◌else◌}
 use Rattle.demands.specs.Types.{State, ReadAnswer, Call, Write, Read, Ticks, Tachometer, Pin, WriteWord, Pulse}
-use Rattle.rules.specs.Basics.{if◌then◌else◌}
 use Rattle.rules.specs.State.{channel, with_motion}
 use Rattle.rules.specs.Registers.{spin_code, watchdog_code, delay_code}
 use Rattle.rules.specs.Time.{clock_after, spin_ticks, ends_early}

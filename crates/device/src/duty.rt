@@ -59,6 +59,7 @@ fn failed_fan(option: u8, fault: bool, faulty: bool) -> Override
 }
 
 // The override on a channel that is monitor only or not and has its fault bit set or not.
+#[tactic(auto, unfolding(rules::specs::Duty::override_by))]
 pub fn override_by(conditions: Conditions, monitor: bool, fault: bool) -> Override
     ensures { result ≡ override_by conditions monitor fault }
 {
@@ -108,6 +109,7 @@ fn own_duty(channel: Channel) -> u16
 }
 
 // The duty that comes out of a channel.
+#[tactic(auto, unfolding(rules::specs::Duty::output_duty))]
 pub fn output_duty(conditions: Conditions, channel: Channel) -> u16
     ensures { result ≡ output_duty conditions channel }
 {
@@ -119,6 +121,7 @@ pub fn output_duty(conditions: Conditions, channel: Channel) -> u16
 }
 
 // The duty that a channel ramps to.
+#[tactic(auto, unfolding(rules::specs::Tick::wanted))]
 pub fn wanted(channel: Channel) -> u16
     ensures { result ≡ wanted channel }
 {

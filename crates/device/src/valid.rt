@@ -35,6 +35,7 @@ fn valid_motion(still: bool, channel: Channel) -> bool
         & ((channel.spin == 0) | ((channel.ramp == 511) & (channel.spin <= 1024)))
 }
 
+#[tactic(auto, unfolding(rules::specs::Valid::valid_channel))]
 fn valid_channel(in_standby: bool, channel: Channel) -> bool
     ensures { result ≡ valid_channel in_standby channel }
 {
@@ -90,6 +91,7 @@ fn valid_pulses(early: bool, channels: [Channel; 6]) -> bool
     valid_counts(early, channels)
 }
 
+#[tactic(auto, unfolding(rules::specs::Valid::valid_registers))]
 fn valid_registers(registers: Registers) -> bool
     ensures { result ≡ valid_registers registers }
 {
@@ -100,6 +102,7 @@ fn valid_registers(registers: Registers) -> bool
 }
 
 // Whether the pin-set values are in range. Start refuses larger numbers than these types hold, so it tests them itself.
+#[tactic(auto, unfolding(rules::specs::Valid::valid_start))]
 fn valid_start(start: StartValues) -> bool
     ensures { result ≡ valid_start start }
 {
@@ -119,6 +122,7 @@ fn valid_watchdog(code: u8, timer: Timer) -> bool
     timer.idle < limit
 }
 
+#[tactic(auto, unfolding(rules::specs::Valid::valid_timer))]
 fn valid_timer(code: u8, timer: Timer) -> bool
     ensures { result ≡ valid_timer code timer }
 {

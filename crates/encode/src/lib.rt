@@ -1,4 +1,6 @@
 // A record as bytes, put into a lent buffer. The definitions stand in `strings`.
+#![tactic(auto)]
+
 ghost use Rattle.std.specs.Prelude.{◌≤◌, ◌≡◌, [], ◌∷◌, length, take};
 ghost use Rattle.lent.specs.Put.{Put};
 ghost use Rattle.strings.specs.Encode.{number_bytes, numbers_bytes, encoded, order_of};

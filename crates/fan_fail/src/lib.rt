@@ -1,4 +1,6 @@
 // The FAN_FAIL query.
+#![tactic(auto)]
+
 ghost use Rattle.std.specs.Prelude.{◌≡◌};
 ghost use Rattle.rules.specs.FanFail.{fan_fail_answer, fan_fail_of};
 

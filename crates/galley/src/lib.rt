@@ -1,4 +1,6 @@
 // The galley's calls. specs/ of galley_rules says what they do.
+#![tactic(auto)]
+
 mod beginning;
 mod sampling;
 mod spans;

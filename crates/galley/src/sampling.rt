@@ -1,7 +1,6 @@
 // A sample of the temperature, and the target duties that it writes.
-ghost use Rattle.std.specs.Prelude.{◌≡◌, true, not};
+ghost use Rattle.std.specs.Prelude.{◌≡◌, true, not, if◌then◌else◌};
 ghost use Rattle.std.specs.Int.Signed.{lt_z};
-ghost use Rattle.rules.specs.Basics.{if◌then◌else◌};
 ghost use Rattle.rules.specs.Calls.{accepted};
 ghost use Rattle.rules.specs.Make.{after_each, targets};
 ghost use Rattle.galley_rules.specs.Temperature.{in_range};
@@ -54,6 +53,7 @@ fn refusal_by(galley: bool, state: bool, tables: bool, temperature: bool) -> u8
 }
 
 // Why a sample cannot be taken, or 0.
+#[tactic(auto, unfolding(galley_rules::specs::Sample::sample_refusal))]
 fn refusal_of(galley: Galley, state: State, t: i32, normal: &[u8], quiet: &[u8]) -> u8
     ensures { result ≡ sample_refusal galley state t normal.now quiet.now }
 {

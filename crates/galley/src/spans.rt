@@ -1,6 +1,5 @@
 // A span of rows: that part of the table in force.
-ghost use Rattle.std.specs.Prelude.{◌≡◌, not, ltb};
-ghost use Rattle.rules.specs.Basics.{if◌then◌else◌};
+ghost use Rattle.std.specs.Prelude.{◌≡◌, not, ltb, if◌then◌else◌};
 ghost use Rattle.galley_rules.specs.Span.{span_refusal, span_rows};
 
 use galley_rows::tables::are_tables;
@@ -9,7 +8,7 @@ use galley_rules::{Galley, NO_TABLE, ROWS_OUTSIDE, TABLE_BYTES};
 use rules::{ACCEPTED, STATE_NOT_VALID};
 
 // A span of rows: the part of the table that is in force, which stays with its owner; the galley as it was given.
-#[derive(Drop)]
+#[derive(Clone, Copy)]
 pub struct Span<'a> {
     pub refusal: u8,
     pub rows: &'a [u8],
@@ -36,6 +35,7 @@ fn refusal_by(galley: bool, tables: bool, first: u32, end: u32) -> u8
 }
 
 // Why a span cannot be handed out, or 0.
+#[tactic(auto, unfolding(galley_rules::specs::Span::span_refusal))]
 pub fn span_refusal<'a>(
     galley: Galley,
     first: u32,
@@ -70,7 +70,7 @@ pub fn span_rows<'a>(
     }
 }
 
-// The struct is made here and nowhere else: a function that holds a reference in a struct is proved by hand.
+// The struct is made here and nowhere else.
 fn as_span<'a>(refusal: u8, rows: &'a [u8], galley: Galley) -> Span<'a>
     ensures { (result.refusal ≡ refusal) × (result.rows ≡ rows.entry) × (result.galley ≡ galley) }
 {

@@ -1,23 +1,19 @@
--- Temperatures as signed integers of 16 and of 32 bits. A signed local holds bits, and what the machine reads back from them,
--- `to_z w (of_z w t)`, is t where t fits the width.
-use Prim.Native.Nat.{ℕ, suc, ◌+◌, ◌-◌, ◌/◌, ◌^◌, ◌≤◌, ◌<◌, min}
+-- Temperatures as signed integers: one in range fits 16 bits, and the row of one and a few eighths more.
+use Prim.Native.Nat.{ℕ, suc, ◌+◌, ◌-◌, ◌/◌, ◌≤◌, min}
 use mathlib.Core.Path.{◌≡◌, sym}
 use mathlib.Core.Bool.{true, false, false≢true}
 use native.Mathlib.Omega.{arith}
-use lib.Dec.{T, leb, ltb}
+use lib.Dec.{leb, ltb}
 use lib.IntN.{ℤ, pos, negsuc, nat_abs, ◌+ℤ◌}
-use lib.Signed.{non_neg, lt_z}
+use lib.Signed.{lt_z}
 use borrow.Author.Tests.{leb-true, ltb-true}
-use mir.Syntax.{w16, w32}
+use mir.Syntax.{w16}
 use mir.Val.{SFits}
 use Rattle.rules.proofs.Tests.{by-test, and_left}
 use Rattle.galley_rules.specs.Temperature.{in_range, row_of}
 use Rattle.galley_rules.proofs.Temperature.{row-above, row_below}
 
--- 16 bits fit 32, and a temperature in range fits 16
-pub wider : (t : ℤ) → SFits w16 t → SFits w32 t
-wider t fits = record { sfits = omega (arith, fits.sfits) }
-
+-- a temperature in range fits 16 bits
 pub in-range-fits : (t : ℤ) → in_range t ≡ true → SFits w16 t
 unfolding in_range
 in-range-fits (pos n) e = record { sfits = omega (arith, leb-true n 1_023 e) }
@@ -37,11 +33,3 @@ row-cold (negsuc n) more h e =
 pub row-warm : (t : ℤ) (more : ℕ) → lt_z t (pos 0) ≡ false → min ((nat_abs t + more) / 16 - 8) 47 ≡ row_of (t +ℤ pos more)
 row-warm (pos n) more e = sym (row-above (n + more))
 row-warm (negsuc n) more e = absurd (false≢true (sym e))
-
-pub not_negative : (t : ℤ) → lt_z t (pos 0) ≡ false → T (non_neg t)
-not_negative (pos n) e = tt
-not_negative (negsuc n) e = absurd (false≢true (sym e))
-
-pub size_fits : (t : ℤ) (more : ℕ) → more ≤ 32 → SFits w32 t → nat_abs t + more < 2 ^ 32
-size_fits (pos n) more h fits = omega (arith, fits.sfits)
-size_fits (negsuc n) more h fits = omega (arith, fits.sfits)

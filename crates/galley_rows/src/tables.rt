@@ -4,6 +4,7 @@ ghost use Rattle.galley_rules.specs.Table.{are_tables, in_force, duty_of, row_du
 
 use galley_rules::TABLE_BYTES;
 
+#[tactic(auto, unfolding(galley_rules::specs::Table::are_tables))]
 pub fn are_tables(normal: &[u8], quiet: &[u8]) -> bool
     ensures { result ≡ are_tables normal.now quiet.now }
 {
@@ -32,6 +33,7 @@ fn byte_of(table: &[u8], row: u8) -> u8
 }
 
 // The duty of a row in the table in force.
+#[tactic(auto, unfolding(galley_rules::specs::Table::row_duty))]
 pub fn row_duty(flag: bool, row: u8, normal: &[u8], quiet: &[u8]) -> u16
     ensures { result ≡ row_duty (in_force flag normal.now quiet.now) row }
 {

@@ -16,6 +16,7 @@ const STEP: u32 = 16;
 
 const FIRST_STEPS: u32 = 8;
 
+#[tactic(auto, unfolding(galley_rules::specs::Temperature::in_range))]
 pub fn in_range(t: i32) -> bool
     ensures { result ≡ in_range t }
 {

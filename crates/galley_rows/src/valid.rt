@@ -13,6 +13,7 @@ fn held_in_range(t: i16) -> bool
 }
 
 // Whether a call would take the state; the paper calls it sound.
+#[tactic(auto, unfolding(galley_rules::specs::Galley::valid_galley))]
 pub fn valid(galley: Galley) -> bool
     ensures { result ≡ valid_galley galley }
 {

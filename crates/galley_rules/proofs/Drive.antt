@@ -11,7 +11,8 @@ use lib.ListN.{length, get_or, set, drop, replicate, length-map, length-set, dro
 use lib.Seq.{drop-cons}
 use borrow.Author.Tests.{eq-eqb, ne_eqb, eqb-true, ltb-true}
 use Rattle.rules.specs.declared.Channel.{Channel}
-use Rattle.rules.specs.Basics.{if◌then◌else◌, every}
+use Rattle.std.specs.Prelude.{if◌then◌else◌}
+use Rattle.rules.specs.Basics.{every}
 use Rattle.rules.specs.State.{blank}
 use Rattle.rules.specs.Calls.{accepted}
 use Rattle.rules.specs.Valid.{valid_of}

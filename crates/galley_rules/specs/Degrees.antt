@@ -1,10 +1,9 @@
 -- "Its reading gives temperature in degrees, exact".
-use Rattle.std.specs.Prelude.{not, Float, ℤ, pos, nat_abs}
+use Rattle.std.specs.Prelude.{not, Float, ℤ, pos, nat_abs, if◌then◌else◌}
 use Rattle.std.specs.Float.{binary64}
 use Rattle.std.specs.Float.Ieee.{round}
 use Rattle.std.specs.Float.Ieee.Exact.{HasValue}
 use Rattle.std.specs.Int.Signed.{non_neg}
-use Rattle.rules.specs.Basics.{if◌then◌else◌}
 use Rattle.rules.specs.Calls.{accepted, state_not_valid}
 use Rattle.galley_rules.specs.Types.{Galley, DegreesAnswer}
 use Rattle.galley_rules.specs.Galley.{valid_galley}

@@ -1,6 +1,5 @@
 -- The galley's state, and a fresh one.
-use Rattle.std.specs.Prelude.{ℕ, Bool, false, ◌&&◌, leb, ℤ, pos}
-use Rattle.rules.specs.Basics.{if◌then◌else◌}
+use Rattle.std.specs.Prelude.{ℕ, Bool, false, ◌&&◌, leb, ℤ, pos, if◌then◌else◌}
 use Rattle.rules.specs.Calls.{accepted}
 use Rattle.galley_rules.specs.Types.{Galley, GalleyAnswer}
 use Rattle.galley_rules.specs.Temperature.{in_range}

@@ -1,7 +1,6 @@
 -- A sample of the temperature: the row that it leaves, ALERT and SHDN, and the target duties that it writes.
-use Rattle.std.specs.Prelude.{ℕ, suc, min, max, Bool, false, not, List, [], ◌∷◌, eqb, ℤ, pos, ◌+ℤ◌}
+use Rattle.std.specs.Prelude.{ℕ, suc, min, max, Bool, false, not, List, [], ◌∷◌, eqb, ℤ, pos, ◌+ℤ◌, if◌then◌else◌}
 use Rattle.std.specs.Int.Signed.{lt_z}
-use Rattle.rules.specs.Basics.{if◌then◌else◌}
 use Rattle.rules.specs.Calls.{accepted, state_not_valid}
 use Rattle.rules.specs.Valid.{valid_of}
 use Rattle.rules.specs.Make.{after_each, targets, target_call}

@@ -1,6 +1,5 @@
 -- "for a span of rows it hands back that part of the table in force, not a copy".
-use Rattle.std.specs.Prelude.{ℕ, ◌-◌, not, List, [], eqb, ltb, take, drop}
-use Rattle.rules.specs.Basics.{if◌then◌else◌}
+use Rattle.std.specs.Prelude.{ℕ, ◌-◌, not, List, [], eqb, ltb, take, drop, if◌then◌else◌}
 use Rattle.rules.specs.Calls.{accepted, state_not_valid}
 use Rattle.galley_rules.specs.Types.{Galley}
 use Rattle.galley_rules.specs.Galley.{valid_galley}

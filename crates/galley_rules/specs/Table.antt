@@ -1,6 +1,5 @@
 -- The two tables, and the duty of a row.
-use Rattle.std.specs.Prelude.{ℕ, ◌*◌, Bool, ◌&&◌, List, eqb, length, get_or}
-use Rattle.rules.specs.Basics.{if◌then◌else◌}
+use Rattle.std.specs.Prelude.{ℕ, ◌*◌, Bool, ◌&&◌, List, eqb, length, get_or, if◌then◌else◌}
 
 -- "20 either table not 48 bytes"
 abbrev pub no_table : ℕ

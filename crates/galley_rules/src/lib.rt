@@ -1,5 +1,7 @@
 // The plain types of the galley box, which follows a temperature table and drives the controller. specs/ says what they mean; no
 // function stands here.
+#![tactic(auto)]
+
 use rules::State;
 
 // The galley's own refusals. 0 and 1 are the rules'.
@@ -13,7 +15,7 @@ pub const TEMPERATURE_OUT_OF_RANGE: u8 = 22;
 pub const TABLE_BYTES: usize = 48;
 
 // The galley's state. Temperatures are in eighths of a degree.
-#[derive(Drop)]
+#[derive(Clone, Copy)]
 pub struct Galley {
     // 0 to 47.
     pub row: u8,
@@ -29,14 +31,14 @@ pub struct Galley {
 }
 
 // What a fresh galley comes with.
-#[derive(Drop)]
+#[derive(Clone, Copy)]
 pub struct GalleyAnswer {
     pub refusal: u8,
     pub galley: Galley,
 }
 
 // What a sample gives back: whether ALERT and SHDN are asserted, and both states.
-#[derive(Drop)]
+#[derive(Clone, Copy)]
 pub struct SampleAnswer {
     pub refusal: u8,
     pub alert: bool,
@@ -46,7 +48,7 @@ pub struct SampleAnswer {
 }
 
 // What a reading of the temperature gives back.
-#[derive(Drop)]
+#[derive(Clone, Copy)]
 pub struct DegreesAnswer {
     pub refusal: u8,
     pub degrees: f64,

@@ -8,7 +8,7 @@ use lib.Dec.{ltb, eqb}
 use lib.Pow.{pow-add, pow_pos}
 use borrow.Author.Tests.{ltb-true, eqb-true, eqb-false, lt-ltb, le-ltb, eq-eqb, ne_eqb}
 use Rattle.laws.proofs.Types.{Channel}
-use Rattle.rules.specs.Basics.{if◌then◌else◌}
+use Rattle.std.specs.Prelude.{if◌then◌else◌}
 use Rattle.rules.specs.State.{with_motion, with_ramp}
 use Rattle.rules.specs.Registers.{spin_code, rate_code, asymmetric}
 use Rattle.rules.specs.Time.{spin_ticks, rate_period}

@@ -6,7 +6,7 @@ use lib.Dec.{ltb, leb, eqb, lit<}
 use borrow.Author.Tests.{ltb-true}
 use Rattle.laws.proofs.Types.{Channel, State, Conditions, Override, None, Duty}
 use Rattle.rules.specs.State.{channel}
-use Rattle.rules.specs.Registers.{standby, monitor_only}
+use Rattle.rules.specs.Registers.{monitor_only}
 use Rattle.rules.specs.Duty.{conditions_of, override_by, override_of, duty_under, output_duty}
 use Rattle.rules.specs.Valid.{valid_of}
 use Rattle.rules.proofs.Tests.{choice}

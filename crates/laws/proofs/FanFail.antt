@@ -11,7 +11,8 @@ use lib.Dec.{eqb}
 use lib.ListN.{length}
 use borrow.Author.Tests.{eqb-true, ne_eqb}
 use Rattle.laws.proofs.Types.{State, FanFailAnswer}
-use Rattle.rules.specs.Basics.{if◌then◌else◌, some, bit}
+use Rattle.std.specs.Prelude.{if◌then◌else◌}
+use Rattle.rules.specs.Basics.{some, bit}
 use Rattle.rules.specs.Registers.{mask_kept}
 use Rattle.rules.specs.Duty.{fault_byte}
 use Rattle.rules.specs.FanFail.{failed, how_many, lowest_from, fan_fail_answer, fan_fail_of}

@@ -8,7 +8,7 @@ use lib.Arith.{digits_div, digits_mod, mod-mul}
 use lib.Dec.{ltb, leb, eqb}
 use lib.Pow.{pow-add, pow_pos}
 use borrow.Author.Tests.{ltb-true, ltb-false, leb-true, leb-false, eqb-true, eqb-false, lt-ltb, le-ltb, le-leb}
-use Rattle.rules.specs.Basics.{if◌then◌else◌}
+use Rattle.std.specs.Prelude.{if◌then◌else◌}
 use Rattle.rules.specs.Tick.{toward}
 use Rattle.rules.proofs.Tests.{by-test}
 

@@ -7,7 +7,7 @@ use native.Mathlib.Omega.{arith}
 use lib.Dec.{eqb, lit<}
 use borrow.Author.Tests.{ltb-true, le-leb, lt-leb}
 use Rattle.laws.proofs.Types.{Channel, State, Conditions}
-use Rattle.rules.specs.Basics.{if◌then◌else◌}
+use Rattle.std.specs.Prelude.{if◌then◌else◌}
 use Rattle.rules.specs.State.{timer, with_channels, with_timer}
 use Rattle.rules.specs.Registers.{monitor_only, watchdog_code}
 use Rattle.rules.specs.Duty.{conditions_of, override_by}

@@ -9,7 +9,8 @@ use lib.Dec.{leb, ltb, eqb}
 use lib.ListN.{length, get_or, replicate}
 use borrow.Author.Tests.{ltb-true, ltb-false, eqb-true, lt-ltb, le-ltb, eq-eqb, ne_eqb, not-true}
 use Rattle.laws.proofs.Types.{Channel, Conditions}
-use Rattle.rules.specs.Basics.{if◌then◌else◌, ◌implies◌, every}
+use Rattle.std.specs.Prelude.{if◌then◌else◌}
+use Rattle.rules.specs.Basics.{◌implies◌, every}
 use Rattle.rules.specs.State.{blank}
 use Rattle.rules.specs.Registers.{spin_code, rate_code, asymmetric}
 use Rattle.rules.specs.Duty.{override_by}

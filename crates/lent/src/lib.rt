@@ -1,4 +1,6 @@
 // What the library and the console do alike with what they are lent: bytes put into a buffer, and numbers taken out of a list.
+#![tactic(auto)]
+
 ghost use Rattle.std.specs.Prelude.{◌≡◌, ◌≤◌, min, take};
 ghost use Rattle.rules.specs.Basics.{flag as Basics·flag};
 ghost use Rattle.lent.specs.Put.{Put};

@@ -14,9 +14,9 @@ use Rattle.numbers.proofs.RoundTrips.{round-trips}
 -- numbers are within limits where a test says so, which antt computes
 abbrev fitting : List ℕ → List ℕ → Bool
 fitting [] [] = true
-fitting [] (n ∷ numbers) = false
-fitting (most ∷ limits) [] = false
-fitting (most ∷ limits) (n ∷ numbers) = leb n most && fitting limits numbers
+fitting [] (n ∷ v) = false
+fitting (most ∷ l) [] = false
+fitting (most ∷ l) (n ∷ v) = leb n most && fitting l v
 
 within_by : (l v : List ℕ) → fitting l v ≡ true → Within l v
 unfolding Within

@@ -1,12 +1,11 @@
 -- The loop over the records of a string.
 use Prim.Native.Nat.{ℕ, suc, ◌+◌, ◌-◌, ◌<◌, ◌≤◌}
 use mathlib.Core.Path.{◌≡◌, refl, sym, ◌∙◌, ap, subst}
-use mathlib.Core.Bool.{Bool, true, false}
+use mathlib.Core.Bool.{Bool}
 use mathlib.Core.List.{List, [], append-nil}
-use native.Mathlib.Numerals.{add-one}
 use native.Mathlib.Omega.{arith}
-use lib.ListN.{length, take, drop, set, length-set, take-append-drop}
-use lib.Seq.{drop-drop, take-suc-set, drop-set-lt, length-take-le}
+use lib.ListN.{length, take, drop, take-append-drop}
+use lib.Seq.{drop-drop, length-take-le}
 use Rattle.rules.specs.declared.State.{State}
 use Rattle.rules.specs.declared.ReadAnswer.{ReadAnswer}
 use Rattle.rules.specs.declared.Call.{Call}
@@ -20,22 +19,6 @@ use Rattle.strings.specs.Run.{ran, after, is_read, answer_bytes, run_on, given, 
 use Rattle.strings.proofs.Fronts.{FoundAhead, record-ahead, ended_here, refused-here}
 use Rattle.strings.proofs.Runs.{after-after, after_nothing, used-up, at-the-end, malformed, call-taken, call-refused}
 use Rattle.orders.specs.Steps.{Kept}
-
--- ---- an answer is kept, or there is none
-
-pub kept-one : (before : List ℕ) (byte answered : ℕ) → answered < length before → Kept true byte answered (answered + 1) before (set before answered byte)
-kept-one before byte answered h =
-    record {
-      long = length-set before answered byte;
-      from = omega arith;
-      most = omega arith;
-      first = rw add-one (take-suc-set before answered byte h);
-      rest = drop-set-lt (answered + 1) before answered byte (omega arith);
-    }
-
-pub kept-none : (before : List ℕ) (byte answered : ℕ) → Kept false byte answered answered before before
-kept-none before byte answered =
-    record { long = refl; from = omega arith; most = omega arith; first = sym (append-nil (take answered before)); rest = refl }
 
 -- ---- a run that has come so far
 

@@ -1,6 +1,5 @@
 -- What a function of the run does with one answer.
-use Rattle.std.specs.Prelude.{ℕ, ◌+◌, ◌≤◌, ◌≡◌, Bool, List, [], ◌∷◌, ◌++◌, length, take, drop}
-use Rattle.rules.specs.Basics.{if◌then◌else◌}
+use Rattle.std.specs.Prelude.{ℕ, ◌+◌, ◌≤◌, ◌≡◌, Bool, List, [], ◌∷◌, ◌++◌, length, take, drop, if◌then◌else◌}
 
 -- a byte is kept after so many others, where one was read
 pub record Kept (read : Bool) (byte answered next : ℕ) (before after : List ℕ) : Type 0 where

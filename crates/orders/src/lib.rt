@@ -1,4 +1,6 @@
 // Orders by the string: a run reads the records of a lent string and makes their calls. The definitions stand in `strings`.
+#![tactic(auto)]
+
 ghost use Rattle.std.specs.Prelude.{◌≡◌, ◌≤◌, ◌<◌, length};
 ghost use Rattle.strings.specs.Run.{is_read, run_on, run_of, given, ended};
 ghost use Rattle.orders.specs.Steps.{Kept};

@@ -1,4 +1,6 @@
 // The level of the pin FULL_SPEED.
+#![tactic(auto)]
+
 ghost use Rattle.std.specs.Prelude.{◌≡◌};
 ghost use Rattle.rules.specs.State.{with_pin};
 ghost use Rattle.rules.specs.Pin.{pin_of};

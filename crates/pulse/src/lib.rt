@@ -1,4 +1,6 @@
 // The call that reports a pulse of a tachometer.
+#![tactic(auto)]
+
 ghost use Rattle.std.specs.Prelude.{◌≡◌, ◌<◌, set};
 ghost use Rattle.rules.specs.State.{with_channels};
 ghost use Rattle.rules.specs.Pulse.{pulsed, with_pulse, pulse_of};

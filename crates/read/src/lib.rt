@@ -1,4 +1,6 @@
 // The call read.
+#![tactic(auto)]
+
 ghost use Rattle.std.specs.Prelude.{◌≡◌, ◌<◌};
 ghost use Rattle.rules.specs.Map.{is_carried, status_index, index_of};
 ghost use Rattle.rules.specs.Calls.{read_answer};

@@ -1,4 +1,6 @@
 // The reading of clock and duties, which the paper calls the cabin reading.
+#![tactic(auto)]
+
 ghost use Rattle.std.specs.Prelude.{◌≡◌, map};
 ghost use Rattle.rules.specs.Duty.{conditions_of, output_duty};
 ghost use Rattle.rules.specs.Reading.{over512, share_of, reading_of, ExactReading};

@@ -35,24 +35,25 @@ module _ (string : List ℕ) (at : ℕ) where
     unfolding record_at record_from
     cut_off h = ap (placed (length string)) (rw (drop_of_length-le string h) at read.same)
 
-    module _ (h : i < length string) (next : Step) (e : next ≡ step_of p (get_or string i 0)) where
-      stepped-to : stepped next (drop (i + 1) string) (λ q. record_from q (drop (i + 1) string)) ≡ front_of (drop at string)
+    module _ (h : i < length string) where
+      stepped-to : (next : Step) → next ≡ step_of p (get_or string i 0) →
+          stepped next (drop (i + 1) string) (λ q. record_from q (drop (i + 1) string)) ≡ front_of (drop at string)
       unfolding record_from
-      stepped-to = rw (e, add-one i) (rw (drop-cons string i 0 h) at read.same)
+      stepped-to next e = rw (e, add-one i) (rw (drop-cons string i 0 h) at read.same)
 
-      pub goes_on : (q : Partial) → next ≡ More q → ReadTo q (i + 1)
-      goes_on q is =
+      pub goes_on : (q : Partial) → More q ≡ step_of p (get_or string i 0) → ReadTo q (i + 1)
+      goes_on q e =
           record {
-            same = rw is at stepped-to;
-            half = subst StepKept (sym e ∙ is) (step_kept p (get_or string i 0) read.half);
+            same = stepped-to (More q) e;
+            half = subst StepKept (sym e) (step_kept p (get_or string i 0) read.half);
           }
 
-      pub whole-at : (call : Call) → next ≡ Whole call → found.Record call (i + 1) ≡ record_at string at
+      pub whole-at : (call : Call) → Whole call ≡ step_of p (get_or string i 0) → found.Record call (i + 1) ≡ record_at string at
       unfolding record_at
-      whole-at call is =
+      whole-at call e =
           let after : length string - length (drop (i + 1) string) ≡ i + 1 = simp length-drop (omega arith) in
-          ap (found.Record call) (sym after) ∙ ap (placed (length string)) (rw is at stepped-to)
+          ap (found.Record call) (sym after) ∙ ap (placed (length string)) (stepped-to (Whole call) e)
 
-      pub refused-at : (refusal : ℕ) → next ≡ Refused refusal → found.Refused refusal ≡ record_at string at
+      pub refused-at : (refusal : ℕ) → Refused refusal ≡ step_of p (get_or string i 0) → found.Refused refusal ≡ record_at string at
       unfolding record_at
-      refused-at refusal is = ap (placed (length string)) (rw is at stepped-to)
+      refused-at refusal e = ap (placed (length string)) (stepped-to (Refused refusal) e)

@@ -56,3 +56,6 @@ sum_fits shift value low p q =
 pub step_is : (p : Partial) (byte : ℕ) (g : Group) → g ≡ group_of p.groups p.value byte → group_taken p g ≡ step_of p byte
 unfolding step_of
 step_is p byte g e = rw e
+
+-- what each line of `group_of` gives
+pub ruleset groups = (zero-alone, zero-after, last-low, fifth-above, last, more)

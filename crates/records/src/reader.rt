@@ -6,7 +6,7 @@ ghost use Rattle.strings.specs.String.{record_at};
 use crate::record::record_at;
 use strings::Found;
 
-#[derive(Drop)]
+#[derive(Clone, Copy)]
 pub struct Reader<'a> {
     pub string: &'a [u8],
     pub at: usize,

@@ -11,6 +11,7 @@ use strings::{
     Stage, Step, TACHOMETER, TICKS, WRITE, WRITE_WORD,
 };
 
+#[tactic(auto, using(crate::proofs::Numbers::groups))]
 fn next_group(groups: u32, value: u32, byte: u32) -> Group
     requires { (groups ≤ 4) × (value < 2 ^ (7 * groups)) × (byte < 256) }
     ensures { result ≡ group_of groups value byte }

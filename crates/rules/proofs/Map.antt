@@ -8,7 +8,8 @@ use native.Mathlib.Decide.{dec_lt}
 use lib.Dec.{ltb, eqb}
 use borrow.Author.Tests.{ltb-true, ltb-false, lt-leb}
 use Rattle.rules.specs.Types.{Place, Absent}
-use Rattle.rules.specs.Basics.{if◌then◌else◌, flag, every}
+use Rattle.std.specs.Prelude.{if◌then◌else◌}
+use Rattle.rules.specs.Basics.{flag, every}
 use Rattle.rules.specs.Map.{setting_at, status_at, target_at, place_at, index_of, is_carried, is_read_only, is_target, is_first, is_config, Row, among, carried_rows, read_only_rows, target_rows, config_rows}
 use Rattle.rules.proofs.Tests.{choice, and_left, and_right, same, all_below, all-below}
 

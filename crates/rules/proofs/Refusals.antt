@@ -4,7 +4,7 @@ use mathlib.Core.Path.{◌≡◌, refl}
 use mathlib.Core.Bool.{not, ◌&&◌}
 use mathlib.Core.List.{[], ◌∷◌, map}
 use lib.Dec.{eqb}
-use Rattle.rules.specs.Basics.{if◌then◌else◌}
+use Rattle.std.specs.Prelude.{if◌then◌else◌}
 use Rattle.rules.specs.Registers.{config_refused}
 use Rattle.rules.specs.Map.{setting_at, status_at, target_at, place_at, among, carried_rows, read_only_rows, target_rows, config_rows}
 use Rattle.rules.specs.Calls.{accepted, not_carried, read_only, config_not_allowed, wrong_width}

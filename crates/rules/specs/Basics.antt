@@ -1,12 +1,7 @@
--- What the other files are written in: a choice by a test, tests over a list, and the bits of a number.
-use Rattle.std.specs.Prelude.{ℕ, ◌+◌, ◌-◌, ◌*◌, ◌/◌, ◌%◌, ◌^◌, Bool, true, false, not, ◌&&◌, ◌||◌, List, [], ◌∷◌, eqb}
+-- What the other files are written in: tests over a list, and the bits of a number.
+use Rattle.std.specs.Prelude.{ℕ, ◌+◌, ◌-◌, ◌*◌, ◌/◌, ◌%◌, ◌^◌, Bool, true, false, not, ◌&&◌, ◌||◌, if◌then◌else◌, List, [], ◌∷◌, eqb}
 
-infixr 10 if◌then◌else◌
 infixr 20 ◌implies◌
-abbrev pub if◌then◌else◌ : {A : Type 0} → Bool → A → A → A
-if true then a else b = a
-if false then a else b = b
-
 -- where a holds, b holds
 abbrev pub ◌implies◌ : Bool → Bool → Bool
 a implies b = not a || b

@@ -1,7 +1,6 @@
 -- What the calls share: the refusal numbers, what is given back, and what an access to a register does besides.
-use Rattle.std.specs.Prelude.{ℕ, Bool, false, ◌&&◌, leb, eqb}
+use Rattle.std.specs.Prelude.{ℕ, Bool, false, ◌&&◌, leb, eqb, if◌then◌else◌}
 use Rattle.rules.specs.Types.{State, Answer, ReadAnswer}
-use Rattle.rules.specs.Basics.{if◌then◌else◌}
 use Rattle.rules.specs.State.{with_idle, with_timer}
 
 -- "Refusal numbers", "Tested in the order of their numbers; given then and never otherwise", but for 8 of K6, which comes "after 3".

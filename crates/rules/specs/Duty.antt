@@ -1,7 +1,7 @@
 -- "Which duty comes out": for each channel the first line that applies.
-use Rattle.std.specs.Prelude.{ℕ, ◌+◌, ◌*◌, Bool, not, ◌&&◌, List, [], ◌∷◌, ltb, eqb}
+use Rattle.std.specs.Prelude.{ℕ, ◌+◌, ◌*◌, Bool, not, ◌&&◌, List, [], ◌∷◌, ltb, eqb, if◌then◌else◌}
 use Rattle.rules.specs.Types.{Channel, State, Conditions, Override, None, Duty}
-use Rattle.rules.specs.Basics.{if◌then◌else◌, some, flag}
+use Rattle.rules.specs.Basics.{some, flag}
 use Rattle.rules.specs.Registers.{standby, monitor_only, failed_fan_option}
 
 -- 11h: "bit 0 for channel 1 to bit 5 for channel 6"

@@ -1,7 +1,7 @@
 -- The FAN_FAIL query.
-use Rattle.std.specs.Prelude.{ℕ, ◌+◌, Bool, false, not, ◌&&◌, List, [], ◌∷◌, map}
+use Rattle.std.specs.Prelude.{ℕ, ◌+◌, Bool, false, not, ◌&&◌, List, [], ◌∷◌, map, if◌then◌else◌}
 use Rattle.rules.specs.Types.{State, FanFailAnswer}
-use Rattle.rules.specs.Basics.{if◌then◌else◌, some, flag}
+use Rattle.rules.specs.Basics.{some, flag}
 use Rattle.rules.specs.State.{channel}
 use Rattle.rules.specs.Registers.{masked}
 use Rattle.rules.specs.Valid.{valid_of}

@@ -1,8 +1,7 @@
 -- The call that reports a pulse of a tachometer, of K7: "A new call reports one pulse on a channel". Whether the tachometer is enabled is not
 -- asked, and no register is accessed: idle count and expiry stay.
-use Rattle.std.specs.Prelude.{ℕ, ◌-◌, Bool, not, ◌&&◌, ltb, eqb, set}
+use Rattle.std.specs.Prelude.{ℕ, ◌-◌, Bool, not, ◌&&◌, ltb, eqb, set, if◌then◌else◌}
 use Rattle.rules.specs.Types.{Channel, State, Answer}
-use Rattle.rules.specs.Basics.{if◌then◌else◌}
 use Rattle.rules.specs.State.{channel, with_motion, with_channels}
 use Rattle.rules.specs.Time.{ends_early}
 use Rattle.rules.specs.Tick.{spin_left}

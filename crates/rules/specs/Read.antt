@@ -1,7 +1,7 @@
 -- The call read.
-use Rattle.std.specs.Prelude.{ℕ, ◌+◌, Bool, not, ◌&&◌, eqb}
+use Rattle.std.specs.Prelude.{ℕ, ◌+◌, Bool, not, ◌&&◌, eqb, if◌then◌else◌}
 use Rattle.rules.specs.Types.{Channel, State, StatusRegister, Faults2, Faults1, Count, OtherCount, Output, BoxRegister, Control, Frequency, Mask2, Mask1, Options, ChannelRegister, Config, Dynamics, Window, WordRegister, Target, TargetCount, Place, Absent, ReadOnly, Shared, Own, OwnWord, ReadAnswer}
-use Rattle.rules.specs.Basics.{if◌then◌else◌, keep, flag}
+use Rattle.rules.specs.Basics.{keep, flag}
 use Rattle.rules.specs.State.{channel, with_status, with_timer}
 use Rattle.rules.specs.Registers.{target_count}
 use Rattle.rules.specs.Words.{duty_word, count_word, output_word, word_byte}

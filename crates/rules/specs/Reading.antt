@@ -1,10 +1,9 @@
 -- The reading of clock and duties, which the paper calls the cabin reading.
-use Rattle.std.specs.Prelude.{ℕ, ◌<◌, false, List, map, eqb, Float, get_or, replicate}
+use Rattle.std.specs.Prelude.{ℕ, ◌<◌, false, List, map, eqb, Float, get_or, replicate, if◌then◌else◌}
 use Rattle.std.specs.Float.{binary64}
 use Rattle.std.specs.Float.Ieee.{round}
 use Rattle.std.specs.Float.Ieee.Exact.{HasValue}
 use Rattle.rules.specs.Types.{State, Reading, ReadingAnswer}
-use Rattle.rules.specs.Basics.{if◌then◌else◌}
 use Rattle.rules.specs.Duty.{conditions_of, output_duty}
 use Rattle.rules.specs.Valid.{valid_of}
 use Rattle.rules.specs.Calls.{accepted, state_not_valid}

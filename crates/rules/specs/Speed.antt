@@ -1,7 +1,6 @@
 -- The speed calculation.
-use Rattle.std.specs.Prelude.{ℕ, ◌*◌, ◌/◌, ◌≤◌, ◌≡◌, Bool, true, false, not, ◌&&◌, ◌||◌, [], ◌∷◌, leb, ltb, eqb, get_or}
+use Rattle.std.specs.Prelude.{ℕ, ◌*◌, ◌/◌, ◌≤◌, ◌≡◌, Bool, true, false, not, ◌&&◌, ◌||◌, [], ◌∷◌, leb, ltb, eqb, get_or, if◌then◌else◌}
 use Rattle.rules.specs.Types.{Speed, Rpm, Stopped, TooFast, Refused}
-use Rattle.rules.specs.Basics.{if◌then◌else◌}
 use Rattle.rules.specs.Calls.{accepted, speed_out_of_range}
 
 -- "range 1, 2, 4, 8, 16, 32, 32, 32 for codes 0 to 7"

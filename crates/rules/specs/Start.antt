@@ -1,7 +1,7 @@
 -- The call start, and what a reset brings back. Power-on values are those of the register table of 004.
-use Rattle.std.specs.Prelude.{ℕ, ◌+◌, ◌*◌, Bool, true, false, replicate}
+use Rattle.std.specs.Prelude.{ℕ, ◌+◌, ◌*◌, Bool, true, false, replicate, if◌then◌else◌}
 use Rattle.rules.specs.Types.{Channel, StartValues, State, Answer}
-use Rattle.rules.specs.Basics.{if◌then◌else◌, bits}
+use Rattle.rules.specs.Basics.{bits}
 use Rattle.rules.specs.State.{blank, registers, start_values, timer}
 use Rattle.rules.specs.Words.{word_count}
 use Rattle.rules.specs.Valid.{valid_start}

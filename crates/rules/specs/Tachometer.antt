@@ -1,7 +1,6 @@
 -- The call that takes a tachometer result: "channel, count of 8,192 Hz clocks".
-use Rattle.std.specs.Prelude.{ℕ, ◌+◌, ◌-◌, min, Bool, not, ◌&&◌, ◌||◌, [], ◌∷◌, leb, ltb, eqb, get_or, set}
+use Rattle.std.specs.Prelude.{ℕ, ◌+◌, ◌-◌, min, Bool, not, ◌&&◌, ◌||◌, [], ◌∷◌, leb, ltb, eqb, get_or, set, if◌then◌else◌}
 use Rattle.rules.specs.Types.{Channel, Results, State, Conditions, Answer}
-use Rattle.rules.specs.Basics.{if◌then◌else◌}
 use Rattle.rules.specs.State.{channel, results, results_of, with_results, with_channels}
 use Rattle.rules.specs.Registers.{monitor_only, tachometer_enabled, queue_code, target_count}
 use Rattle.rules.specs.Duty.{conditions_of, output_duty}

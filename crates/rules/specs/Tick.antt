@@ -1,7 +1,6 @@
 -- "One tick", and the call that passes ticks.
-use Rattle.std.specs.Prelude.{ℕ, zero, suc, ◌+◌, ◌-◌, ◌%◌, Bool, true, false, ◌&&◌, ◌||◌, List, [], ◌∷◌, leb, ltb, eqb}
+use Rattle.std.specs.Prelude.{ℕ, zero, suc, ◌+◌, ◌-◌, ◌%◌, Bool, true, false, ◌&&◌, ◌||◌, List, [], ◌∷◌, leb, ltb, eqb, if◌then◌else◌}
 use Rattle.rules.specs.Types.{Channel, Timer, State, Conditions, Override, None, Duty, Answer}
-use Rattle.rules.specs.Basics.{if◌then◌else◌}
 use Rattle.rules.specs.State.{timer, with_wait, with_motion, with_ramp, with_channels, with_timer}
 use Rattle.rules.specs.Registers.{spin_code, rate_code, asymmetric, watchdog_code, delay_code}
 use Rattle.rules.specs.Time.{clock_after, watchdog_limit, spin_ticks, start_delay, rate_period}

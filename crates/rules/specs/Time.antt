@@ -1,6 +1,5 @@
 -- "Time": the clock, and the codes of the registers in ticks.
-use Rattle.std.specs.Prelude.{ℕ, ◌+◌, ◌-◌, ◌*◌, ◌%◌, ◌^◌, Bool, [], ◌∷◌, eqb, get_or}
-use Rattle.rules.specs.Basics.{if◌then◌else◌}
+use Rattle.std.specs.Prelude.{ℕ, ◌+◌, ◌-◌, ◌*◌, ◌%◌, ◌^◌, Bool, [], ◌∷◌, eqb, get_or, if◌then◌else◌}
 
 -- "The clock is a 32-bit number of ticks that returns to 0 after 4,294,967,295"
 abbrev pub clock_after : ℕ → ℕ → ℕ

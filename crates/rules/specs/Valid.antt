@@ -1,8 +1,8 @@
 -- A valid state, which the paper calls sound. What the types hold by themselves is not tested: that there are six channels, that
 -- configuration, window and frequency are bytes, that the clock has 32 bits.
-use Rattle.std.specs.Prelude.{ℕ, Bool, not, ◌&&◌, ◌||◌, leb, ltb, eqb}
+use Rattle.std.specs.Prelude.{ℕ, Bool, not, ◌&&◌, ◌||◌, leb, ltb, eqb, if◌then◌else◌}
 use Rattle.rules.specs.Types.{Channel, Registers, StartValues, Timer, State, Answer}
-use Rattle.rules.specs.Basics.{if◌then◌else◌, ◌implies◌, every, flag}
+use Rattle.rules.specs.Basics.{◌implies◌, every, flag}
 use Rattle.rules.specs.Registers.{standby, watchdog_code, monitor_only, target_count, control_kept, dynamics_kept, mask_kept, options_kept, config_refused}
 use Rattle.rules.specs.Time.{watchdog_limit, ends_early}
 use Rattle.rules.specs.Calls.{state_not_valid, answer}

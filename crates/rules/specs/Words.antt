@@ -1,6 +1,6 @@
 -- "Two-byte values have the high byte first": duties and counts, left-justified in a word of 16 bits.
-use Rattle.std.specs.Prelude.{ℕ, ◌+◌, ◌-◌, ◌*◌, ◌/◌, ◌%◌, ◌^◌, ◌<◌, ◌≡◌, Bool, true, eqb}
-use Rattle.rules.specs.Basics.{if◌then◌else◌, flag}
+use Rattle.std.specs.Prelude.{ℕ, ◌+◌, ◌-◌, ◌*◌, ◌/◌, ◌%◌, ◌^◌, ◌<◌, ◌≡◌, Bool, true, eqb, if◌then◌else◌}
+use Rattle.rules.specs.Basics.{flag}
 
 -- a number of so many bits, left-justified; what such a word shows; and whether it shows a number, its other bits being 0
 abbrev pub left_justified : ℕ → ℕ → ℕ

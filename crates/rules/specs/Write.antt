@@ -1,7 +1,7 @@
 -- The call write, of a byte.
-use Rattle.std.specs.Prelude.{ℕ, not, ◌&&◌, map, set}
+use Rattle.std.specs.Prelude.{ℕ, not, ◌&&◌, map, set, if◌then◌else◌}
 use Rattle.rules.specs.Types.{Channel, Registers, State, BoxRegister, Control, Frequency, Mask2, Mask1, Options, ChannelRegister, Config, Dynamics, Window, Place, Absent, ReadOnly, Shared, Own, OwnWord, Answer}
-use Rattle.rules.specs.Basics.{if◌then◌else◌, bit}
+use Rattle.rules.specs.Basics.{bit}
 use Rattle.rules.specs.State.{channel, registers, with_settings, with_motion, with_channels, with_registers}
 use Rattle.rules.specs.Registers.{target_count, control_kept, dynamics_kept, mask_kept, options_kept, config_refused}
 use Rattle.rules.specs.Map.{place_at, is_carried, is_read_only, is_target, is_config}

@@ -1,7 +1,6 @@
 -- The call that writes a word, of K6: "Join the two byte writes of a target duty or target count into one word write."
-use Rattle.std.specs.Prelude.{ℕ, false, not, set}
+use Rattle.std.specs.Prelude.{ℕ, false, not, set, if◌then◌else◌}
 use Rattle.rules.specs.Types.{Channel, State, WordRegister, Target, TargetCount, Place, Absent, ReadOnly, Shared, Own, OwnWord, Answer}
-use Rattle.rules.specs.Basics.{if◌then◌else◌}
 use Rattle.rules.specs.State.{channel, results, with_settings, with_results, with_channels}
 use Rattle.rules.specs.Registers.{target_count}
 use Rattle.rules.specs.Words.{word_duty, word_count}

@@ -1,7 +1,8 @@
 // The plain types that the rules speak of. specs/ says what they mean; no function stands here.
+#![tactic(auto)]
 
 // One channel: a fan's registers, its tachometer results, and where its duty stands.
-#[derive(Drop)]
+#[derive(Clone, Copy)]
 pub struct Channel {
     // 02h to 07h, 08h to 0Dh and 60h to 65h, as they read.
     pub config: u8,
@@ -22,7 +23,7 @@ pub struct Channel {
 }
 
 // What a tachometer result changes of a channel.
-#[derive(Drop)]
+#[derive(Clone, Copy)]
 pub struct Results {
     pub count: u16,
     pub queue: u8,
@@ -30,7 +31,7 @@ pub struct Results {
 }
 
 // The registers of the whole box that can be written. 00h is kept without its status bit.
-#[derive(Drop)]
+#[derive(Clone, Copy)]
 pub struct Registers {
     pub control: u8,
     pub frequency: u8,
@@ -40,7 +41,7 @@ pub struct Registers {
 }
 
 // The pin-set values that start was given: a reset needs them again.
-#[derive(Drop)]
+#[derive(Clone, Copy)]
 pub struct StartValues {
     pub watchdog: u8,
     pub spinup: u8,
@@ -51,7 +52,7 @@ pub struct StartValues {
 }
 
 // What a tick moves besides the channels: the clock, the watchdog, and the wait that the channels share.
-#[derive(Drop)]
+#[derive(Clone, Copy)]
 pub struct Timer {
     pub clock: u32,
     pub idle: u16,
@@ -62,7 +63,7 @@ pub struct Timer {
     pub status: bool,
 }
 
-#[derive(Drop)]
+#[derive(Clone, Copy)]
 pub struct State {
     pub channels: [Channel; 6],
     pub registers: Registers,
@@ -73,7 +74,7 @@ pub struct State {
 }
 
 // What an override depends on besides the channel itself.
-#[derive(Drop)]
+#[derive(Clone, Copy)]
 pub struct Conditions {
     pub pin: bool,
     pub standby: bool,
@@ -84,14 +85,14 @@ pub struct Conditions {
 }
 
 // The duty that an override forces, if one is in force.
-#[derive(Drop)]
+#[derive(Clone, Copy)]
 pub enum Override {
     None,
     Duty(u16),
 }
 
 // A register of the whole box that can be written: 00h, 01h, 12h, 13h, 14h.
-#[derive(Drop)]
+#[derive(Clone, Copy)]
 pub enum BoxRegister {
     Control,
     Frequency,
@@ -101,7 +102,7 @@ pub enum BoxRegister {
 }
 
 // A register that each channel has and that is written a byte at a time.
-#[derive(Drop)]
+#[derive(Clone, Copy)]
 pub enum ChannelRegister {
     Config,
     Dynamics,
@@ -109,14 +110,14 @@ pub enum ChannelRegister {
 }
 
 // A register of two bytes that each channel has and that is written a word at a time: target duty, target count.
-#[derive(Drop)]
+#[derive(Clone, Copy)]
 pub enum WordRegister {
     Target,
     TargetCount,
 }
 
 // A register that can only be read; of a channel's, which channel (0 to 5) and whether it is the low byte.
-#[derive(Drop)]
+#[derive(Clone, Copy)]
 pub enum StatusRegister {
     Faults2,
     Faults1,
@@ -127,7 +128,7 @@ pub enum StatusRegister {
 }
 
 // What stands at an address, and so what may be done there.
-#[derive(Drop)]
+#[derive(Clone, Copy)]
 pub enum Place {
     Absent,
     ReadOnly(StatusRegister),
@@ -157,14 +158,14 @@ pub const START_OUT_OF_RANGE: u8 = 7;
 pub const WRONG_WIDTH: u8 = 8;
 
 // What a call gives back.
-#[derive(Drop)]
+#[derive(Clone, Copy)]
 pub struct Answer {
     pub refusal: u8,
     pub state: State,
 }
 
 // What a read gives back.
-#[derive(Drop)]
+#[derive(Clone, Copy)]
 pub struct ReadAnswer {
     pub refusal: u8,
     pub byte: u8,
@@ -172,7 +173,7 @@ pub struct ReadAnswer {
 }
 
 // A call that is handed a state and may change it. The two queries, which give the state back as it was, are none of these.
-#[derive(Drop)]
+#[derive(Clone, Copy)]
 pub enum Call {
     // The address and the byte.
     Write(u32, u8),
@@ -192,7 +193,7 @@ pub enum Call {
 
 // What a FAN_FAIL query gives back: whether it is asserted, how many unmasked channels have failed, and the lowest of
 // them (1 to 6), or 0.
-#[derive(Drop)]
+#[derive(Clone, Copy)]
 pub struct FanFailAnswer {
     pub refusal: u8,
     pub asserted: bool,
@@ -202,7 +203,7 @@ pub struct FanFailAnswer {
 }
 
 // What the speed calculation gives back.
-#[derive(Drop)]
+#[derive(Clone, Copy)]
 pub enum Speed {
     // Revolutions a minute.
     Rpm(u32),
@@ -214,14 +215,14 @@ pub enum Speed {
 }
 
 // The clock in seconds, and each output duty as a share of full speed.
-#[derive(Drop)]
+#[derive(Clone, Copy)]
 pub struct Reading {
     pub seconds: f64,
     pub shares: [f64; 6],
 }
 
 // What a reading gives back.
-#[derive(Drop)]
+#[derive(Clone, Copy)]
 pub struct ReadingAnswer {
     pub refusal: u8,
     pub reading: Reading,

@@ -1,9 +1,8 @@
 -- Long division in base two: each turn gives one bit of the quotient, from the top.
 use Prim.Native.Nat.{ℕ, ◌+◌, ◌-◌, ◌*◌, ◌/◌, ◌%◌, ◌^◌, ◌≤◌, ◌<◌}
 use mathlib.Core.Path.{◌≡◌, sym, ◌∙◌, ap}
-use native.Mathlib.Nat.{add-mul, mul_comm, mul_assoc, mul-one, pow-suc, mul-le-mul_left, mul-le-mul_right, le-div_iff_mul-le, div-lt_iff_lt-mul}
+use native.Mathlib.Nat.{add-mul, mul_comm, mul_assoc, pow-suc, mul-le-mul_right, le-div_iff_mul-le}
 use native.Mathlib.Omega.{arith}
-use lib.Arith.{digits_div}
 use lib.Pow.{pow_pos}
 
 -- n divided by d with k bits to come: q is the quotient so far, and r is left of n
@@ -14,60 +13,34 @@ pub record Dividing (n d q r k : ℕ) : Type 0 where
   pub whole : q * d + r ≡ n
   pub small : r < d * 2 ^ k
 
--- before the first turn all of n is left, and its quotient has no more bits than n
-pub begins : (n d k : ℕ) → n < 2 ^ k → k ≤ 24 → n < 2 ^ 24 → 0 < d → Dividing n d 0 n k
-begins n d k h most few some =
-    let l : 1 * 2 ^ k ≤ d * 2 ^ k = mul-le-mul_right (2 ^ k) some in
-    record { few = few; some = some; bits = most; whole = omega arith; small = omega (arith, h, l) }
+module _ (n d q r k : ℕ) (v : Dividing n d q r k) (more : 0 < k) where
+  -- the divisor moved up to the bit that comes next
+  abbrev up : ℕ
+  up = d * 2 ^ (k - 1)
 
-module _ (n d q r k : ℕ) (v : Dividing n d q r k) where
-  -- after the last one what is left is the remainder
-  pub ends : k ≤ 0 → q ≡ n / d
-  ends h =
-      let e : k ≡ 0 = omega arith in
-      let l : r < d = omega (arith, v.small, ap (λ j. d * 2 ^ j) e, mul-one d) in
-      sym (digits_div q l) ∙ ap (λ m. m / d) v.whole
+  twice : d * 2 ^ k ≡ up * 2
+  twice = ap (λ j. d * 2 ^ j) (omega arith) ∙ ap (λ m. d * m) (pow-suc 2 (k - 1)) ∙ sym (mul_assoc d (2 ^ (k - 1)) 2)
 
-  module _ (more : 0 < k) where
-    -- the divisor moved up to the bit that comes next
-    abbrev up : ℕ
-    up = d * 2 ^ (k - 1)
+  -- it goes in: the bit is 1
+  module _ (h : d ≤ r / 2 ^ (k - 1)) where
+    goes_in : up ≤ r
+    goes_in = (le-div_iff_mul-le (pow_pos (k - 1))).0 h
 
-    twice : d * 2 ^ k ≡ up * 2
-    twice = ap (λ j. d * 2 ^ j) (omega arith) ∙ ap (λ m. d * m) (pow-suc 2 (k - 1)) ∙ sym (mul_assoc d (2 ^ (k - 1)) 2)
+    -- so neither it nor the 1 that is moved up with it loses a bit
+    divisor-fits : up % 2 ^ 32 ≡ up
+    divisor-fits = omega (arith, goes_in, v.whole, v.few)
 
-    -- it does not go in: the bit is 0
-    pub bit-clear : r / 2 ^ (k - 1) < d → Dividing n d q r (k - 1)
-    bit-clear h =
-        record { few = v.few; some = v.some; bits = omega (arith, v.bits); whole = v.whole; small = (div-lt_iff_lt-mul (pow_pos (k - 1))).0 h }
+    one-fits : 1 * 2 ^ (k - 1) % 2 ^ 32 ≡ 2 ^ (k - 1)
+    one-fits = let l : 1 * 2 ^ (k - 1) ≤ up = mul-le-mul_right (2 ^ (k - 1)) v.some in omega (arith, l, goes_in, v.whole, v.few)
 
-    -- it goes in: the bit is 1
-    module _ (h : d ≤ r / 2 ^ (k - 1)) where
-      goes_in : up ≤ r
-      goes_in = (le-div_iff_mul-le (pow_pos (k - 1))).0 h
-
-      -- so neither it nor the 1 that is moved up with it loses a bit
-      divisor-fits : up % 2 ^ 32 ≡ up
-      divisor-fits = omega (arith, goes_in, v.whole, v.few)
-
-      one-fits : 1 * 2 ^ (k - 1) % 2 ^ 32 ≡ 2 ^ (k - 1)
-      one-fits = let l : 1 * 2 ^ (k - 1) ≤ up = mul-le-mul_right (2 ^ (k - 1)) v.some in omega (arith, l, goes_in, v.whole, v.few)
-
-      pub subtracted : up % 2 ^ 32 ≤ r
-      subtracted = rw divisor-fits goes_in
-
-      pub bit-set : Dividing n d (q + 1 * 2 ^ (k - 1) % 2 ^ 32) (r - up % 2 ^ 32) (k - 1)
-      bit-set =
-          let e : (q + 2 ^ (k - 1)) * d ≡ q * d + up = add-mul q (2 ^ (k - 1)) d ∙ ap (λ m. q * d + m) (mul_comm (2 ^ (k - 1)) d) in
-          rw (divisor-fits, one-fits)
-          record {
-            few = v.few;
-            some = v.some;
-            bits = omega (arith, v.bits);
-            whole = omega (arith, e, goes_in, v.whole);
-            small = omega (arith, twice, v.small);
-          }
-
--- the quotient is at most what is divided
-pub quotient_le : (n d q r k : ℕ) → Dividing n d q r k → q ≤ n
-quotient_le n d q r k v = let l : q * 1 ≤ q * d = mul-le-mul_left q v.some in omega (arith, l, v.whole)
+    pub bit-set : Dividing n d (q + 1 * 2 ^ (k - 1) % 2 ^ 32) (r - up % 2 ^ 32) (k - 1)
+    bit-set =
+        let e : (q + 2 ^ (k - 1)) * d ≡ q * d + up = add-mul q (2 ^ (k - 1)) d ∙ ap (λ m. q * d + m) (mul_comm (2 ^ (k - 1)) d) in
+        rw (divisor-fits, one-fits)
+        record {
+          few = v.few;
+          some = v.some;
+          bits = omega (arith, v.bits);
+          whole = omega (arith, e, goes_in, v.whole);
+          small = omega (arith, twice, v.small);
+        }

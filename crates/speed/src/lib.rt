@@ -1,4 +1,6 @@
 // The speed calculation: revolutions a minute from a tachometer count, or that the fan has stopped or is too fast for its range.
+#![tactic(auto)]
+
 ghost use Rattle.std.specs.Prelude.{◌≡◌, ◌<◌, ◌/◌};
 ghost use Rattle.rules.specs.Speed.{speed_refused, speed_of, SpeedTold};
 
@@ -30,6 +32,7 @@ fn divide(dividend: u32, divisor: u32) -> u32
     quotient
 }
 
+#[tactic(auto, unfolding(rules::specs::Speed::speed_refused))]
 fn refused(range: u32, pulses: u32, count: u32) -> bool
     ensures { result ≡ speed_refused range pulses count }
 {

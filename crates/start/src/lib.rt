@@ -1,4 +1,6 @@
 // The call start.
+#![tactic(auto)]
+
 ghost use Rattle.std.specs.Prelude.{◌≡◌};
 ghost use Rattle.rules.specs.Start.{zero_state, start_of};
 
@@ -51,6 +53,7 @@ fn zero_state() -> State
 }
 
 // The state of a box that has just been powered on, with the values that its pins set.
+#[tactic(auto, unfolding(rules::specs::Start::start_of, rules::specs::Valid::valid_start))]
 pub fn start(watchdog: u32, spinup: u32, target: u32, frequency: u8, modification: u32) -> Answer
     ensures { result ≡ start_of watchdog spinup target frequency modification }
 {

@@ -8,7 +8,7 @@ use lib.Dec.{ltb}
 use lib.ListN.{length, drop, length-append, length-drop}
 use lib.Seq.{drop-drop, take-append_seam, drop-append_seam}
 use borrow.Author.Tests.{ltb-true, ltb-false, not-false}
-use Rattle.rules.specs.Basics.{if◌then◌else◌}
+use Rattle.std.specs.Prelude.{if◌then◌else◌}
 use Rattle.rules.specs.Calls.{accepted, state_not_valid}
 use Rattle.rules.specs.Valid.{valid_of}
 use Rattle.rules.specs.Make.{made}

@@ -1,6 +1,6 @@
 -- A record as bytes: "groups of seven bits, low group first, top bit set on all but the last, shortest form only".
-use Rattle.std.specs.Prelude.{ℕ, zero, suc, ◌+◌, ◌/◌, ◌%◌, List, [], ◌∷◌, ◌++◌, ltb}
-use Rattle.rules.specs.Basics.{if◌then◌else◌, flag}
+use Rattle.std.specs.Prelude.{ℕ, zero, suc, ◌+◌, ◌/◌, ◌%◌, List, [], ◌∷◌, ◌++◌, ltb, if◌then◌else◌}
+use Rattle.rules.specs.Basics.{flag}
 use Rattle.rules.specs.declared.Call.TheVariants as call
 use Rattle.strings.specs.Types.{Call, Order}
 use Rattle.strings.specs.declared.Order.TheVariants.{Write, Read, Ticks, Tachometer, Pin, WriteWord, Pulse}

@@ -1,7 +1,6 @@
 -- A number of an order string, byte by byte: "whole numbers in groups of seven bits, low group first, top bit set on all but the
 -- last, shortest form only, at most 4,294,967,295".
-use Rattle.std.specs.Prelude.{ℕ, ◌+◌, ◌*◌, ◌%◌, ◌^◌, ◌&&◌, ltb, eqb}
-use Rattle.rules.specs.Basics.{if◌then◌else◌}
+use Rattle.std.specs.Prelude.{ℕ, ◌+◌, ◌*◌, ◌%◌, ◌^◌, ◌&&◌, ltb, eqb, if◌then◌else◌}
 use Rattle.strings.specs.Types.{Group}
 use Rattle.strings.specs.declared.Group.TheVariants.{More, Last, Refused}
 

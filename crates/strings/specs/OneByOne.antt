@@ -1,6 +1,5 @@
 -- What is demanded of a run: nobody can tell it from making the calls one by one.
-use Rattle.std.specs.Prelude.{ℕ, zero, suc, ◌+◌, ◌≤◌, ◌<◌, ◌≡◌, true, false, List, [], ◌∷◌, ◌++◌, length, take, drop, eqb}
-use Rattle.rules.specs.Basics.{if◌then◌else◌}
+use Rattle.std.specs.Prelude.{ℕ, zero, suc, ◌+◌, ◌≤◌, ◌<◌, ◌≡◌, true, false, List, [], ◌∷◌, ◌++◌, length, take, drop, eqb, if◌then◌else◌}
 use Rattle.rules.specs.Calls.{accepted, state_not_valid}
 use Rattle.rules.specs.Valid.{valid_of}
 use Rattle.rules.specs.Make.{made_each, after_each}

@@ -1,7 +1,6 @@
 -- A record of an order string, byte by byte: "Kinds: 0 write (address, value), 1 read (address), 2 ticks (n), 3 tachometer (channel,
 -- count), 4 pin (0 low, 1 high)", since K6 "kind 5 (even address, word)", and since K7 "kind 6 (channel)".
-use Rattle.std.specs.Prelude.{ℕ, ◌+◌, ◌*◌, ◌^◌, ◌≤◌, ◌<◌, ltb, eqb}
-use Rattle.rules.specs.Basics.{if◌then◌else◌}
+use Rattle.std.specs.Prelude.{ℕ, ◌+◌, ◌*◌, ◌^◌, ◌≤◌, ◌<◌, ltb, eqb, if◌then◌else◌}
 use Rattle.rules.specs.declared.Call.TheVariants.{Write, Read, Ticks, Tachometer, Pin, WriteWord, Pulse}
 use Rattle.strings.specs.Types.{Group, Stage, Kind, WriteAddress, WriteByte, ReadAddress, TickCount, ResultChannel, ResultCount, PinLevel, WordAddress, WordValue, PulseChannel, Partial, Step}
 use Rattle.strings.specs.declared.Group.TheVariants as group

@@ -1,6 +1,5 @@
 -- A run of an order string: "A run takes at most the number of records its caller allows and reports how many it took".
-use Rattle.std.specs.Prelude.{ℕ, zero, suc, ◌+◌, Bool, true, false, not, List, [], ◌∷◌, ◌++◌, length, drop, ltb, eqb}
-use Rattle.rules.specs.Basics.{if◌then◌else◌}
+use Rattle.std.specs.Prelude.{ℕ, zero, suc, ◌+◌, Bool, true, false, not, List, [], ◌∷◌, ◌++◌, length, drop, ltb, eqb, if◌then◌else◌}
 use Rattle.rules.specs.Calls.{accepted, state_not_valid}
 use Rattle.rules.specs.Valid.{valid_of}
 use Rattle.rules.specs.Make.{made}

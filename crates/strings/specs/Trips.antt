@@ -1,7 +1,7 @@
 -- Numbers and records convert both ways without loss: what is written reads back, with whatever follows it left over, and whatever is
 -- read is what would be written, so that there is one string for each.
-use Rattle.std.specs.Prelude.{ℕ, ◌+◌, ◌^◌, ◌<◌, ◌≡◌, Bool, true, ◌&&◌, List, [], ◌∷◌, ◌++◌, ltb, eqb}
-use Rattle.rules.specs.Basics.{if◌then◌else◌, every}
+use Rattle.std.specs.Prelude.{ℕ, ◌+◌, ◌^◌, ◌<◌, ◌≡◌, Bool, true, ◌&&◌, List, [], ◌∷◌, ◌++◌, ltb, eqb, if◌then◌else◌}
+use Rattle.rules.specs.Basics.{every}
 use Rattle.rules.specs.declared.Call.TheVariants as call
 use Rattle.strings.specs.Types.{Call, Group, Order}
 use Rattle.strings.specs.declared.Group.TheVariants.{More, Last, Refused}

@@ -1,4 +1,6 @@
 // The plain types that order strings are read, written and run with. specs/ says what they mean; no function stands here.
+#![tactic(auto)]
+
 use rules::{Call, State};
 
 // The refusals of a string that is read, and of a run whose answer buffer is shorter than the string. A call's own refusals are
@@ -29,7 +31,7 @@ pub const WRITE_WORD: u32 = 5;
 pub const PULSE: u32 = 6;
 
 // What a byte makes of a number: what its groups are worth so far, with more to come or as the last; or a refusal.
-#[derive(Drop)]
+#[derive(Clone, Copy)]
 pub enum Group {
     More(u32),
     Last(u32),
@@ -37,7 +39,7 @@ pub enum Group {
 }
 
 // Which number of a record is being read, with the one before it where that is kept.
-#[derive(Drop)]
+#[derive(Clone, Copy)]
 pub enum Stage {
     Kind,
     WriteAddress,
@@ -53,7 +55,7 @@ pub enum Stage {
 }
 
 // What has been read of a record: the stage, and of its number so many groups, and what they are worth.
-#[derive(Drop)]
+#[derive(Clone, Copy)]
 pub struct Partial {
     pub stage: Stage,
     pub groups: u8,
@@ -61,7 +63,7 @@ pub struct Partial {
 }
 
 // What a byte makes of a record: more is to come, it is whole, or it is refused.
-#[derive(Drop)]
+#[derive(Clone, Copy)]
 pub enum Step {
     More(Partial),
     Whole(Call),
@@ -69,7 +71,7 @@ pub enum Step {
 }
 
 // What stands at an index of a string: a record, as its call, and the index after it; the string's end; or a refusal.
-#[derive(Drop)]
+#[derive(Clone, Copy)]
 pub enum Found {
     Record(Call, usize),
     End,
@@ -77,7 +79,7 @@ pub enum Found {
 }
 
 // A record as its kind and its numbers, whatever they are: one that will be refused is written as well.
-#[derive(Drop)]
+#[derive(Clone, Copy)]
 pub enum Order {
     // The address and the value.
     Write(u32, u32),
@@ -96,7 +98,7 @@ pub enum Order {
 }
 
 // What a run gives back, besides the answers in their buffer: how many records it took, and how many answer bytes there are.
-#[derive(Drop)]
+#[derive(Clone, Copy)]
 pub struct RunAnswer {
     pub refusal: u8,
     pub taken: u32,

@@ -1,4 +1,6 @@
 // The call that takes a tachometer result.
+#![tactic(auto)]
+
 ghost use Rattle.std.specs.Prelude.{◌≡◌, ◌+◌, ◌<◌, min};
 ghost use Rattle.rules.specs.State.{results, results_of, with_results};
 ghost use Rattle.rules.specs.Tachometer.{stored_count, judged, is_bad, bad_result, result_taken, channel_result, with_result, result_of};

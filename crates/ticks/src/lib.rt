@@ -1,4 +1,6 @@
 // The passing of ticks. No loop counts ticks: each part of the state is worked out at once, whatever their number.
+#![tactic(auto)]
+
 ghost use Rattle.std.specs.Prelude.{◌≡◌, ◌-◌, ◌≤◌, true, nat_le};
 ghost use Rattle.rules.specs.Basics.{every};
 ghost use Rattle.rules.specs.Time.{clock_after};
@@ -63,7 +65,7 @@ fn idle_limit(state: State) -> u16
 }
 
 // What becomes of the watchdog in a span, and in how many of its ticks a channel may move.
-#[derive(Drop)]
+#[derive(Clone, Copy)]
 struct Span {
     moving: u32,
     idle: u16,

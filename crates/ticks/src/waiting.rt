@@ -135,7 +135,7 @@ fn turns_of(now: Conditions, state: State, ticks: u32) -> Turns
 }
 
 // The wait after so many ticks, and the ticks that each channel waited.
-#[derive(Drop)]
+#[derive(Clone, Copy)]
 pub struct Waited {
     pub wait: u16,
     pub ticks: [u32; 6],

@@ -14,7 +14,7 @@ module _ (clock past delay wait : ℕ) (ws : List Waiter) where
   turns-long : (wait : ℕ) (ws : List Waiter) → length (turns_tick clock past delay wait ws) ≡ length ws
   unfolding turns_tick
   turns-long wait [] = refl
-  turns-long wait (w ∷ ws) = ap (λ n. suc n) (turns-long _ ws)
+  turns-long wait (w ∷ ws) = ap (λ n. suc n) (turns-long (wait_then (may_leave clock wait w.shift) delay wait) ws)
 
   -- one of them, at the wait that those before it leave; and the wait after it
   turns_at : (wait : ℕ) (ws : List Waiter) (n : ℕ) (d : Waiter) → n < length ws →
@@ -22,7 +22,7 @@ module _ (clock past delay wait : ℕ) (ws : List Waiter) where
   unfolding turns_tick wait_left
   turns_at wait [] n d h = absurd (omega arith)
   turns_at wait (w ∷ ws) zero d h = refl
-  turns_at wait (w ∷ ws) (suc n) d h = turns_at _ ws n d (omega arith)
+  turns_at wait (w ∷ ws) (suc n) d h = turns_at (wait_then (may_leave clock wait w.shift) delay wait) ws n d (omega arith)
 
   wait-take : (wait : ℕ) (ws : List Waiter) (n : ℕ) (d : Waiter) → n < length ws →
       wait_left clock delay wait (take (suc n) ws)
@@ -30,7 +30,7 @@ module _ (clock past delay wait : ℕ) (ws : List Waiter) where
   unfolding wait_left
   wait-take wait [] n d h = absurd (omega arith)
   wait-take wait (w ∷ ws) zero d h = refl
-  wait-take wait (w ∷ ws) (suc n) d h = wait-take _ ws n d (omega arith)
+  wait-take wait (w ∷ ws) (suc n) d h = wait-take (wait_then (may_leave clock wait w.shift) delay wait) ws n d (omega arith)
 
   abbrev after : List Waiter
   after = turns_tick clock past delay wait ws

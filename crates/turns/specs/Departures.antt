@@ -1,6 +1,5 @@
 -- When the next one leaves, worked out: what the private functions give. The promise of this crate does not speak of it.
-use Rattle.std.specs.Prelude.{ℕ, ◌+◌, ◌-◌, ◌*◌, ◌/◌, ◌^◌, min, max, List, [], ◌∷◌}
-use Rattle.rules.specs.Basics.{if◌then◌else◌}
+use Rattle.std.specs.Prelude.{ℕ, ◌+◌, ◌-◌, ◌*◌, ◌/◌, ◌^◌, min, max, List, [], ◌∷◌, if◌then◌else◌}
 use Rattle.turns.specs.Types.{Waiter}
 use Rattle.turns.specs.Turns.{is_waiting}
 

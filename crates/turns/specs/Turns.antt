@@ -1,8 +1,7 @@
 -- K8 by numbers alone: "channels go from 1 to 6; one whose ramp value would leave 0 may do so only at wait 0, and then sets the wait". Of a
 -- channel that waits only the power of two counts whose multiples are the clocks at which it would leave. Nothing here has to be believed beside
 -- the rules: `ticks` proves that it is what the one-tick rule gives.
-use Rattle.std.specs.Prelude.{ℕ, zero, suc, ◌+◌, ◌-◌, ◌%◌, ◌^◌, Bool, ◌&&◌, List, [], ◌∷◌, ltb, eqb}
-use Rattle.rules.specs.Basics.{if◌then◌else◌}
+use Rattle.std.specs.Prelude.{ℕ, zero, suc, ◌+◌, ◌-◌, ◌%◌, ◌^◌, Bool, ◌&&◌, List, [], ◌∷◌, ltb, eqb, if◌then◌else◌}
 use Rattle.turns.specs.Types.{Waiter}
 
 abbrev pub waiter : ℕ → ℕ → Waiter

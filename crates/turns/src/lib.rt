@@ -1,20 +1,21 @@
 // Which of the channels that wait to leave ramp value 0 do so in a span of ticks, and when. Of a channel only numbers are asked for, so
 // that who may leave is decided apart from what a channel does then. specs/ says it tick by tick; here no loop counts ticks.
-ghost use Rattle.std.specs.Prelude.{◌≡◌, ◌-◌, ◌^◌, ◌≤◌, ◌<◌, max, min, ltb};
-ghost use Rattle.rules.specs.Basics.{if◌then◌else◌};
+#![tactic(auto)]
+
+ghost use Rattle.std.specs.Prelude.{◌≡◌, ◌-◌, ◌^◌, ◌≤◌, ◌<◌, max, min, ltb, if◌then◌else◌};
 ghost use Rattle.turns.specs.Turns.{may_leave, turn, wait_then, ticked, turns_after};
 ghost use Rattle.turns.specs.Departures.{leave_tick, first_leave};
 
 // A channel by how it waits. The clocks at which it would leave are the multiples of 2 to the power `shift`, which is 0 to 7; with any
 // other number it does not wait. `waited` has the ticks that it waited before the one in which it left.
-#[derive(Drop)]
+#[derive(Clone, Copy)]
 pub struct Waiter {
     pub shift: u8,
     pub waited: u32,
 }
 
 // The shared wait, and the channels from 1 to 6.
-#[derive(Drop)]
+#[derive(Clone, Copy)]
 pub struct Turns {
     pub wait: u16,
     pub waiters: [Waiter; 6],
@@ -86,6 +87,7 @@ fn first_leave(wait: u16, waiters: [Waiter; 6], clock: u64) -> u64
     first
 }
 
+#[tactic(auto, unfolding(crate::specs::Turns::may_leave))]
 fn may_leave(wait: u16, shift: u8, clock: u64) -> bool
     requires { clock < 2 ^ 34 }
     ensures { result ≡ may_leave clock wait shift }

@@ -1,5 +1,7 @@
 // Duties and counts as the words that the registers show, and back. Every function takes any number: a duty counts
 // modulo 512, a count modulo 2,048, and the bits of a word that show no number are dropped.
+#![tactic(auto)]
+
 ghost use Rattle.std.specs.Prelude.{◌≡◌};
 ghost use Rattle.rules.specs.Words.{duty_word, word_duty, count_word, word_count, output_word, word_byte};
 

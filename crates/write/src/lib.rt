@@ -1,4 +1,6 @@
 // The call write, of a byte.
+#![tactic(auto)]
+
 ghost use Rattle.std.specs.Prelude.{◌≡◌, map, ◌<◌};
 ghost use Rattle.rules.specs.declared.BoxRegister.TheVariants.{Control};
 ghost use Rattle.rules.specs.declared.ChannelRegister.TheVariants.{Config};

@@ -1,4 +1,6 @@
 // The call that writes a word: a channel's target duty or target count in one go.
+#![tactic(auto)]
+
 ghost use Rattle.std.specs.Prelude.{◌≡◌, ◌<◌};
 ghost use Rattle.rules.specs.Map.{index_of};
 ghost use Rattle.rules.specs.Calls.{unless_refused, accessed};

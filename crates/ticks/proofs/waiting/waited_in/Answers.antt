@@ -1,0 +1,18 @@
+-- Where none waits, none has waited; else as the turns say.
+use Rattle.std.proofs.Common.{replicate, sym, refl, ap, ◌∙◌, arith, le-leb}
+use Rattle.laws.proofs.Waiting.{stood}
+use Rattle.ticks.proofs.AfterTurns.{waited-low, row-turned, none-turned}
+use Rattle.ticks.proofs.waiting.waited_in.Goals as goal
+
+pub returns-then-none_waits : goal.returns-then-none_waits
+returns-then-none_waits c = let a = c.args in (
+  ap (λ wait. (wait, stood a.now a.ticks a.state.timer.clock (replicate 6 0) a.state.channels)) c.fall.ensures
+      ∙ none-turned a.state a.ticks a.now c.requires.0 (sym c.none_waits.ensures ∙ c.if-none_waits.true) (omega arith),
+  rw (le-leb 0 a.ticks (omega arith)) refl,
+)
+
+pub returns : goal.returns
+returns c = let s = c.args.state in (
+  row-turned s c.requires.1 _ _ c.requires.0 _ _ c.turns_of-turns.ensures _ c.waited_of-waited.ensures,
+  waited-low s c.requires.1 _ _ c.requires.0 _ _ c.turns_of-turns.ensures _ c.waited_of-waited.ensures,
+)
