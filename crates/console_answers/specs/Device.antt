@@ -1,7 +1,7 @@
 -- What the lines of the controller make of what is in hand, and what they print: the table of the console's lines.
 use Rattle.std.specs.Prelude.{ℕ, Bool, true, false, List, [], ◌∷◌}
-use Rattle.rules.specs.declared.Answer.{Answer}
-use Rattle.rules.specs.declared.ReadAnswer.{ReadAnswer}
+use Rattle.rules.specs.Types.{Answer}
+use Rattle.rules.specs.Types.{ReadAnswer}
 use Rattle.rules.specs.declared.Call.{Call}
 use Rattle.rules.specs.Basics.{flag}
 use Rattle.rules.specs.Start.{start_of}

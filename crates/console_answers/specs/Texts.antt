@@ -3,7 +3,7 @@ use Rattle.std.specs.Prelude.{ℕ, ◌+◌, ◌*◌, false, List, [], ◌∷◌,
 use Rattle.rules.specs.declared.Speed.{Speed}
 use Rattle.rules.specs.declared.Speed.TheVariants.{Rpm, Stopped, TooFast, Refused}
 use Rattle.rules.specs.declared.Reading.{Reading}
-use Rattle.rules.specs.declared.ReadingAnswer.{ReadingAnswer}
+use Rattle.rules.specs.Types.{ReadingAnswer}
 use Rattle.rules.specs.Speed.{speed_of, speed_refusal, speed_value}
 use Rattle.lent.specs.Values.{number}
 use Rattle.console_text.specs.Ascii.{ascii}

@@ -8,7 +8,7 @@ use lib.Seq.{take_at, drop_at}
 use lib.Dec.{eqb}
 use borrow.Author.Tests.{eq-eqb, ne_eqb}
 use Rattle.rules.specs.declared.State.{State}
-use Rattle.rules.specs.declared.Answer.{Answer}
+use Rattle.rules.specs.Types.{Answer}
 use Rattle.rules.specs.declared.Conditions.{Conditions}
 use Rattle.rules.specs.State.{channel}
 use Rattle.rules.specs.Duty.{conditions_of, output_duty}

@@ -2,8 +2,8 @@
 use Rattle.std.specs.Prelude.{ℕ, eqb}
 use Rattle.rules.specs.declared.Call.{Call}
 use Rattle.rules.specs.declared.Call.TheVariants as call
-use Rattle.strings.specs.declared.Order.{Order}
-use Rattle.strings.specs.declared.Order.TheVariants as order
+use Rattle.strings.specs.declared.order.Order.{Order}
+use Rattle.strings.specs.declared.order.Order.TheVariants as order
 use Rattle.lent.specs.Values.{byte_of, word_of}
 use Rattle.console_table.specs.declared.Kind.{Kind}
 use Rattle.console_table.specs.declared.Kind.TheVariants.{Write, Read, Ticks, Tachometer, Pin, WriteWord, Pulse}

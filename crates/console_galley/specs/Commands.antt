@@ -2,9 +2,9 @@
 use Rattle.std.specs.Prelude.{ℕ, ◌+◌, List, [], ◌∷◌, ◌++◌, Float, eqb, take, drop}
 use Rattle.rules.specs.Basics.{flag}
 use Rattle.galley_rules.specs.declared.Galley.{Galley}
-use Rattle.galley_rules.specs.declared.GalleyAnswer.{GalleyAnswer}
-use Rattle.galley_rules.specs.declared.SampleAnswer.{SampleAnswer}
-use Rattle.galley_rules.specs.declared.DegreesAnswer.{DegreesAnswer}
+use Rattle.galley_rules.specs.Types.{GalleyAnswer}
+use Rattle.galley_rules.specs.Types.{SampleAnswer}
+use Rattle.galley_rules.specs.Types.{DegreesAnswer}
 use Rattle.galley_rules.specs.Galley.{galley, fresh_of}
 use Rattle.galley_rules.specs.Sample.{sample_of}
 use Rattle.galley_rules.specs.Span.{span_refusal, span_rows}

@@ -7,8 +7,8 @@ use lib.ListN.{length, take, drop, length-append, length-drop}
 use lib.Seq.{take_at}
 use Rattle.rules.specs.declared.State.{State}
 use Rattle.rules.specs.Calls.{state_not_valid}
-use Rattle.strings.specs.declared.Order.{Order}
-use Rattle.strings.specs.declared.RunAnswer.{RunAnswer}
+use Rattle.strings.specs.declared.order.Order.{Order}
+use Rattle.strings.specs.Types.{RunAnswer}
 use Rattle.strings.specs.Encode.{encoded}
 use Rattle.strings.specs.Run.{answers_too_short, Ran, ran, run_on, Given, given, ended, run_of}
 use Rattle.strings.proofs.Parts.{of-each-way}

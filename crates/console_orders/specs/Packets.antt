@@ -1,6 +1,6 @@
 -- What `run` and `encode` make of what is in hand, and what they print.
 use Rattle.std.specs.Prelude.{ℕ, List, [], ◌∷◌, take}
-use Rattle.strings.specs.declared.Order.{Order}
+use Rattle.strings.specs.declared.order.Order.{Order}
 use Rattle.strings.specs.Encode.{encoded}
 use Rattle.strings.specs.Run.{Given, run_of}
 use Rattle.lent.specs.Values.{number}

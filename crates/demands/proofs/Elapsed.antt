@@ -8,7 +8,7 @@ use native.Mathlib.Omega.{arith}
 use lib.Dec.{ltb, eqb, lit<}
 use lib.ListN.{length, set, get_or-eq_default, replicate}
 use borrow.Author.Tests.{ltb-true, ltb-false, eqb-true, eqb-false, le-ltb}
-use Rattle.demands.specs.Types.{Channel, State, Conditions, Override, None, Duty, Answer}
+use Rattle.demands.specs.Types.{Channel, State, Conditions, Option, None, Some, Answer}
 use Rattle.rules.specs.State.{blank, channel, registers, start_values, timer, with_settings, with_motion, with_ramp, with_channels, with_registers, with_timer, with_wait}
 use Rattle.rules.specs.Registers.{rate_code, watchdog_code, delay_code}
 use Rattle.rules.specs.Time.{watchdog_limit, start_delay}
@@ -97,9 +97,9 @@ pub free-duty : (k : Conditions) (ch : Channel) → overridden k ch ≡ false �
 unfolding output_duty
 free-duty k ch free z = by-override (override_of k ch) free
   where
-    by-override : (o : Override) → in_force o ≡ false → duty_under o ch ≡ ch.ramp
+    by-override : (o : Option ℕ) → in_force o ≡ false → duty_under o ch ≡ ch.ramp
     by-override None e = rw (le-ltb 0 ch.spin (omega arith)) refl
-    by-override (Duty d) e = absurd (false≢true (sym e))
+    by-override (Some d) e = absurd (false≢true (sym e))
 
 -- k ticks that the watchdog does not end lead a channel where it goes by itself
 abbrev pub Own : State → ℕ → ℕ → Type 0

@@ -8,7 +8,7 @@ use lib.Dec.{leb, ltb, eqb}
 use lib.ListN.{length, get_or, set, replicate, length-set}
 use lib.Seq.{get_or-set_same}
 use borrow.Author.Tests.{le-leb, lt-leb, leb-true, leb-false}
-use Rattle.demands.specs.Types.{Channel, Results, State, Conditions, Override, None, Duty}
+use Rattle.demands.specs.Types.{Channel, Results, State, Conditions, Option, None, Some}
 use Rattle.std.specs.Prelude.{if◌then◌else◌}
 use Rattle.rules.specs.Basics.{some}
 use Rattle.rules.specs.State.{blank, channel, results, results_of, with_results}
@@ -83,9 +83,9 @@ some-set test [] i y d e = refl
 some-set test (x ∷ xs) zero y d e = ap (λ b. b || some test xs) e
 some-set test (x ∷ xs) (suc i) y d e = ap (λ b. test x || b) (some-set test xs i y d e)
 
-duty-same : (o : Override) (ch : Channel) (r : Results) → duty_under o (with_results ch r) ≡ duty_under o ch
+duty-same : (o : Option ℕ) (ch : Channel) (r : Results) → duty_under o (with_results ch r) ≡ duty_under o ch
 duty-same None ch r = refl
-duty-same (Duty d) ch r = refl
+duty-same (Some d) ch r = refl
 
 judged-same : (k : Conditions) (ch : Channel) (r : Results) → r.fault ≡ ch.fault → judged k (with_results ch r) ≡ judged k ch
 unfolding judged output_duty

@@ -1,6 +1,6 @@
 -- "Trials on both sides": those that the paper marks (M), a single list with a single claim over it.
 use Rattle.std.specs.Prelude.{ℕ, ◌+◌, ◌*◌, ◌/◌, ◌%◌, ◌≤◌, ◌<◌, ◌≡◌, Bool, true, false, List, [], ◌∷◌, map, leb, length, take}
-use Rattle.demands.specs.Types.{State, Rpm, Tachometer}
+use Rattle.demands.specs.Types.{State, Ok, Rpm, Tachometer}
 use Rattle.rules.specs.State.{channel}
 use Rattle.rules.specs.Registers.{spin_code, rate_code, asymmetric, watchdog_code, tachometer_enabled, queue_code}
 use Rattle.rules.specs.Duty.{conditions_of}
@@ -164,7 +164,7 @@ Holds (stored count word) = (s : State) (i : ℕ) → Enabled s i → Reads (res
 Holds (queues code results last) =
     (s : State) (i : ℕ) (counts : List ℕ) → Queued code results s i counts →
     (k : ℕ) → k ≤ length counts → (channel (after_results s i (take k counts)) i).fault ≡ leb last k
-Holds (turns range pulses count speed) = speed_of range pulses count ≡ Rpm speed
+Holds (turns range pulses count speed) = speed_of range pulses count ≡ Ok (Rpm speed)
 
 -- there is a state that begins so
 abbrev pub Met : Trial → Type 0

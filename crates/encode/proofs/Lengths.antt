@@ -5,8 +5,8 @@ use native.Mathlib.Omega.{arith}
 use lib.Dec.{ltb}
 use lib.ListN.{length, length-append}
 use Rattle.rules.proofs.Tests.{by-test}
-use Rattle.strings.specs.declared.Order.{Order}
-use Rattle.strings.specs.declared.Order.TheVariants.{Write, Read, Ticks, Tachometer, Pin, WriteWord, Pulse}
+use Rattle.strings.specs.declared.order.Order.{Order}
+use Rattle.strings.specs.declared.order.Order.TheVariants.{Write, Read, Ticks, Tachometer, Pin, WriteWord, Pulse}
 use Rattle.strings.specs.Encode.{bytes_within, number_bytes, numbers_bytes, encoded}
 
 within-length : (room n : ℕ) → length (bytes_within room n) ≤ room

@@ -6,4 +6,5 @@ pub mod Table
 pub mod Sample
 pub mod Span
 pub mod Degrees
+pub mod Refusals
 pub mod Demands

@@ -4,7 +4,7 @@ use mathlib.Core.Path.{◌≡◌}
 use mathlib.Core.Bool.{true, not, ◌&&◌}
 use lib.Dec.{ltb, leb, eqb, lit<}
 use borrow.Author.Tests.{ltb-true}
-use Rattle.laws.proofs.Types.{Channel, State, Conditions, Override, None, Duty}
+use Rattle.laws.proofs.Types.{Channel, State, Conditions, Option, None, Some}
 use Rattle.rules.specs.State.{channel}
 use Rattle.rules.specs.Registers.{monitor_only}
 use Rattle.rules.specs.Duty.{conditions_of, override_by, override_of, duty_under, output_duty}
@@ -13,9 +13,9 @@ use Rattle.rules.proofs.Tests.{choice}
 use Rattle.laws.proofs.Valid.{parts, parts-of-channel, four}
 
 -- a duty that an override forces
-InRange : Override → Type 0
+InRange : Option ℕ → Type 0
 InRange None = Unit {0}
-InRange (Duty duty) = duty < 512
+InRange (Some duty) = duty < 512
 
 override-in-range : (k : Conditions) (ch : Channel) → InRange (override_of k ch)
 unfolding override_by InRange
@@ -28,10 +28,10 @@ override-in-range k ch =
     choice InRange (eqb k.option 2 && ch.fault) _ _ (λ e. lit< tt) λ e.
     choice InRange (eqb k.option 3 && k.faulty) _ _ (λ e. lit< tt) (λ e. tt)
 
-duty-in-range : (o : Override) (ch : Channel) → InRange o → ch.ramp < 512 → duty_under o ch < 512
+duty-in-range : (o : Option ℕ) (ch : Channel) → InRange o → ch.ramp < 512 → duty_under o ch < 512
 unfolding InRange
 duty-in-range None ch h l = choice (λ d. d < 512) (ltb 0 ch.spin) 511 ch.ramp (λ e. lit< tt) (λ e. l)
-duty-in-range (Duty duty) ch h l = h
+duty-in-range (Some duty) ch h l = h
 
 pub output-duty-lt : (s : State) (i : ℕ) → valid_of s ≡ true → output_duty (conditions_of s) (channel s i) < 512
 unfolding output_duty

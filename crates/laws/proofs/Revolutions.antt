@@ -7,7 +7,7 @@ use native.Mathlib.Omega.{arith}
 use native.Mathlib.Nat.{le_trans, mul-le-mul_right, mul-le-mul_left, mul-pos, le-div_iff_mul-le}
 use lib.Dec.{leb, ltb}
 use borrow.Author.Tests.{leb-true, ltb-false, not-false, eq-eqb, ne_eqb}
-use Rattle.laws.proofs.Types.{Speed, Rpm, Stopped, TooFast, Refused}
+use Rattle.laws.proofs.Types.{Result, Ok, Err, Refusal, SpeedOutOfRange, Speed, Rpm, Stopped, TooFast}
 use Rattle.rules.specs.Speed.{speed_range, revolutions, speed_refused, speed_of, SpeedTold}
 use Rattle.rules.proofs.Tests.{and_left, and_right, all-below, every-at}
 
@@ -61,25 +61,25 @@ module _ (range pulses count : ℕ) where
   pub speed-at-least-60 : HasSpeed range pulses count → 60 ≤ revolutions range pulses count
   speed-at-least-60 a = (le-div_iff_mul-le (divisor-pos a)).1 (omega (arith, divisor-le a, speed-range-pos range a.range-le))
 
-  pub speed-refused : speed_refused range pulses count ≡ true → Refused ≡ speed_of range pulses count
+  pub speed-refused : speed_refused range pulses count ≡ true → Err SpeedOutOfRange ≡ speed_of range pulses count
   unfolding speed_of
   speed-refused e = rw e refl
 
-  pub speed-stopped : speed_refused range pulses count ≡ false → count ≡ 2047 → Stopped ≡ speed_of range pulses count
+  pub speed-stopped : speed_refused range pulses count ≡ false → count ≡ 2047 → Ok Stopped ≡ speed_of range pulses count
   unfolding speed_of
   speed-stopped e is = rw (e, eq-eqb count 2047 is) refl
 
-  pub speed-too-fast : speed_refused range pulses count ≡ false → count ≡ 0 → TooFast ≡ speed_of range pulses count
+  pub speed-too-fast : speed_refused range pulses count ≡ false → count ≡ 0 → Ok TooFast ≡ speed_of range pulses count
   unfolding speed_of
   speed-too-fast e is = rw (e, ne_eqb count 2047 (omega (arith, is)), eq-eqb count 0 is) refl
 
   pub speed-given : speed_refused range pulses count ≡ false → 1 ≤ count → count ≤ 2046 →
-      Rpm (revolutions range pulses count) ≡ speed_of range pulses count
+      Ok (Rpm (revolutions range pulses count)) ≡ speed_of range pulses count
   unfolding speed_of
   speed-given e some most = rw (e, ne_eqb count 2047 (omega (arith, most)), ne_eqb count 0 (omega (arith, some))) refl
 
   -- the case decides number and value
-  pub speed-promised : {r : Speed} → r ≡ speed_of range pulses count → (r ≡ speed_of range pulses count) × SpeedTold range pulses count r
+  pub speed-promised : {r : Result Speed Refusal} → r ≡ speed_of range pulses count → (r ≡ speed_of range pulses count) × SpeedTold range pulses count r
   speed-promised is = (
     is,
     rw is
@@ -93,7 +93,7 @@ module _ (range pulses count : ℕ) where
 
 -- each case is met, and what is refused comes before either word
 pub each-case-met :
-    (speed_of 2 2 1000 ≡ Rpm 983) × (speed_of 2 2 2047 ≡ Stopped) × (speed_of 2 2 0 ≡ TooFast)
-    × (speed_of 8 2 2047 ≡ Refused) × (speed_of 2 5 0 ≡ Refused) × (speed_of 2 2 2048 ≡ Refused)
+    (speed_of 2 2 1000 ≡ Ok (Rpm 983)) × (speed_of 2 2 2047 ≡ Ok Stopped) × (speed_of 2 2 0 ≡ Ok TooFast)
+    × (speed_of 8 2 2047 ≡ Err SpeedOutOfRange) × (speed_of 2 5 0 ≡ Err SpeedOutOfRange) × (speed_of 2 2 2048 ≡ Err SpeedOutOfRange)
 unfolding speed_of speed_refused speed_range
 each-case-met = (refl, refl, refl, refl, refl, refl)

@@ -7,13 +7,13 @@ use native.Mathlib.Omega.{arith}
 use lib.ListN.{length, take, drop, take-append-drop}
 use lib.Seq.{drop-drop, length-take-le}
 use Rattle.rules.specs.declared.State.{State}
-use Rattle.rules.specs.declared.ReadAnswer.{ReadAnswer}
+use Rattle.rules.specs.Types.{ReadAnswer}
 use Rattle.rules.specs.declared.Call.{Call}
 use Rattle.rules.specs.Calls.{accepted}
 use Rattle.rules.specs.Make.{made}
-use Rattle.strings.specs.declared.RunAnswer.{RunAnswer}
-use Rattle.strings.specs.declared.Found.{Found}
-use Rattle.strings.specs.declared.Found.TheVariants as found
+use Rattle.strings.specs.Types.{RunAnswer}
+use Rattle.strings.specs.Found.{Found}
+use Rattle.strings.specs.Found as found
 use Rattle.strings.specs.String.{record_at}
 use Rattle.strings.specs.Run.{ran, after, is_read, answer_bytes, run_on, given, ended, run_of}
 use Rattle.strings.proofs.Fronts.{FoundAhead, record-ahead, ended_here, refused-here}

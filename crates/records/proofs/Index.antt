@@ -8,9 +8,9 @@ use lib.ListN.{length, drop, get_or, drop_of_length-le, length-drop}
 use lib.Seq.{drop-cons}
 use Rattle.rules.specs.declared.Call.{Call}
 use Rattle.strings.specs.declared.Partial.{Partial}
-use Rattle.strings.specs.declared.Step.{Step}
-use Rattle.strings.specs.declared.Step.TheVariants.{More, Whole, Refused}
-use Rattle.strings.specs.declared.Found.TheVariants as found
+use Rattle.strings.specs.Step.{Step}
+use Rattle.strings.specs.Step.{More, Whole, Refused}
+use Rattle.strings.specs.Found as found
 use Rattle.strings.specs.Number.{string_ends}
 use Rattle.strings.specs.Record.{blank, step_of, HalfRead}
 use Rattle.strings.specs.String.{stepped, record_from, front_of, placed, record_at}

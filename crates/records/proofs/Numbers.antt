@@ -6,8 +6,8 @@ use native.Mathlib.Omega.{arith}
 use native.Mathlib.Nat.{add-zero, mod-lt, mul-mod_left}
 use lib.Pow.{pow_pos, mod-pow-add, shl_exact}
 use borrow.Author.Tests.{lt-ltb, le-ltb, eq-eqb}
-use Rattle.strings.specs.declared.Group.{Group}
-use Rattle.strings.specs.declared.Group.TheVariants.{More, Last, Refused}
+use Rattle.strings.specs.Group.{Group}
+use Rattle.strings.specs.Group.{More, Last, Refused}
 use Rattle.strings.specs.Number.{long_form, number_too_large, group_of}
 use Rattle.strings.specs.Record.{group_taken, step_of}
 use Rattle.strings.specs.declared.Partial.{Partial}

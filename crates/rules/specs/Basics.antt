@@ -1,19 +1,13 @@
 -- What the other files are written in: tests over a list, and the bits of a number.
-use Rattle.std.specs.Prelude.{ℕ, ◌+◌, ◌-◌, ◌*◌, ◌/◌, ◌%◌, ◌^◌, Bool, true, false, not, ◌&&◌, ◌||◌, if◌then◌else◌, List, [], ◌∷◌, eqb}
+use Rattle.std.specs.Prelude.{ℕ, ◌+◌, ◌-◌, ◌*◌, ◌/◌, ◌%◌, ◌^◌, Bool, not, ◌||◌, if◌then◌else◌, eqb}
+
+-- the test holds of every element; of some element
+pub use Rattle.std.specs.List.{list_all as every, list_any as some}
 
 infixr 20 ◌implies◌
 -- where a holds, b holds
 abbrev pub ◌implies◌ : Bool → Bool → Bool
 a implies b = not a || b
-
--- the test holds of every element; of some element
-abbrev pub every : {A : Type 0} → (A → Bool) → List A → Bool
-every test [] = true
-every test (x ∷ xs) = test x && every test xs
-
-abbrev pub some : {A : Type 0} → (A → Bool) → List A → Bool
-some test [] = false
-some test (x ∷ xs) = test x || some test xs
 
 -- bit n of a number, bit 0 the lowest
 abbrev pub bit : ℕ → ℕ → Bool

@@ -1,10 +1,10 @@
 -- A call as a value: one of those that are handed a state is made, or a list of them one after the other.
-use Rattle.std.specs.Prelude.{ℕ, ◌≡◌, true, List, [], ◌∷◌, map}
-use Rattle.rules.specs.Types.{State, Target, Answer, ReadAnswer, Call, Write, Read, Ticks, Tachometer, Pin, WriteWord, Pulse}
+use Rattle.std.specs.Prelude.{ℕ, ◌≡◌, true, List, [], ◌∷◌, map, Option, None, Some, Result, Ok, Err}
+use Rattle.rules.specs.Types.{State, Target, Answer, ReadAnswer, Refusal, Made, Call, Write, Read, Ticks, Tachometer, Pin, WriteWord, Pulse}
 use Rattle.rules.specs.Valid.{valid_of, if_valid}
 use Rattle.rules.specs.Words.{duty_word}
 use Rattle.rules.specs.Map.{target_address}
-use Rattle.rules.specs.Calls.{accepted, answer, read_answer}
+use Rattle.rules.specs.Calls.{accepted, number_of, answer, read_answer}
 use Rattle.rules.specs.Write.{write_of}
 use Rattle.rules.specs.WriteWord.{write_word_of}
 use Rattle.rules.specs.Read.{read_of}
@@ -16,6 +16,15 @@ use Rattle.rules.specs.Pulse.{pulse_of}
 -- a call that reads nothing answers byte 0
 abbrev pub without_byte : Answer → ReadAnswer
 without_byte a = read_answer a.refusal 0 a.state
+
+-- what a call answers, by its result in the code
+abbrev pub byte_or_0 : Option ℕ → ℕ
+byte_or_0 None = 0
+byte_or_0 (Some byte) = byte
+
+abbrev pub made_by : State → Result Made Refusal → ReadAnswer
+made_by s (Ok m) = read_answer accepted (byte_or_0 m.byte) m.state
+made_by s (Err refusal) = read_answer (number_of refusal) 0 s
 
 -- the refusal, the byte of a read, and the state that is given back
 unfoldable pub made : State → Call → ReadAnswer

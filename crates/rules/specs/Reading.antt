@@ -1,12 +1,12 @@
 -- The reading of clock and duties, which the paper calls the cabin reading.
-use Rattle.std.specs.Prelude.{ℕ, ◌<◌, false, List, map, eqb, Float, get_or, replicate, if◌then◌else◌}
+use Rattle.std.specs.Prelude.{ℕ, ◌<◌, false, List, map, eqb, Float, get_or, replicate, Result, Ok, Err, if◌then◌else◌}
 use Rattle.std.specs.Float.{binary64}
 use Rattle.std.specs.Float.Ieee.{round}
 use Rattle.std.specs.Float.Ieee.Exact.{HasValue}
-use Rattle.rules.specs.Types.{State, Reading, ReadingAnswer}
+use Rattle.rules.specs.Types.{State, Refusal, Reading, ReadingAnswer}
 use Rattle.rules.specs.Duty.{conditions_of, output_duty}
 use Rattle.rules.specs.Valid.{valid_of}
-use Rattle.rules.specs.Calls.{accepted, state_not_valid}
+use Rattle.rules.specs.Calls.{accepted, state_not_valid, number_of}
 
 -- "divided by 512": the f64 nearest to n / 512
 unfoldable pub over512 : ℕ → Float
@@ -34,6 +34,16 @@ reading_of s =
     record {
       refusal = if valid_of s then accepted else state_not_valid;
       reading = record { seconds = over512 (clock_read s); shares = map over512 (shares_read s) };
+      state = s;
+    }
+
+-- the same of the call's result in the code
+abbrev pub reading_by : State → Result Reading Refusal → ReadingAnswer
+reading_by s (Ok reading) = record { refusal = accepted; reading = reading; state = s }
+reading_by s (Err refusal) =
+    record {
+      refusal = number_of refusal;
+      reading = record { seconds = over512 0; shares = map over512 (replicate 6 0) };
       state = s;
     }
 

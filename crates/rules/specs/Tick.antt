@@ -1,6 +1,6 @@
 -- "One tick", and the call that passes ticks.
-use Rattle.std.specs.Prelude.{ℕ, zero, suc, ◌+◌, ◌-◌, ◌%◌, Bool, true, false, ◌&&◌, ◌||◌, List, [], ◌∷◌, leb, ltb, eqb, if◌then◌else◌}
-use Rattle.rules.specs.Types.{Channel, Timer, State, Conditions, Override, None, Duty, Answer}
+use Rattle.std.specs.Prelude.{ℕ, zero, suc, ◌+◌, ◌-◌, ◌%◌, Bool, true, false, ◌&&◌, ◌||◌, List, [], ◌∷◌, leb, ltb, eqb, Option, None, Some, if◌then◌else◌}
+use Rattle.rules.specs.Types.{Channel, Timer, State, Conditions, Answer}
 use Rattle.rules.specs.State.{timer, with_wait, with_motion, with_ramp, with_channels, with_timer}
 use Rattle.rules.specs.Registers.{spin_code, rate_code, asymmetric, watchdog_code, delay_code}
 use Rattle.rules.specs.Time.{clock_after, watchdog_limit, spin_ticks, start_delay, rate_period}
@@ -21,9 +21,9 @@ unfoldable pub spin_up_due : Channel → Bool
 spin_up_due ch = eqb ch.ramp 0 && ltb 0 (wanted ch) && ltb 0 (spin_code ch.config)
 
 -- "An override is in force when its line decides the duty"
-abbrev pub in_force : Override → Bool
+abbrev pub in_force : Option ℕ → Bool
 in_force None = false
-in_force (Duty duty) = true
+in_force (Some duty) = true
 
 abbrev pub overridden : Conditions → Channel → Bool
 overridden k ch = in_force (override_of k ch)

@@ -1,8 +1,14 @@
-// The plain types that the rules speak of. specs/ says what they mean; no function stands here.
+// The plain types that the rules speak of. specs/ says what they mean.
 #![tactic(auto)]
 
+mod index;
+mod refusal;
+
+pub use index::ChannelIndex;
+pub use refusal::Refusal;
+
 // One channel: a fan's registers, its tachometer results, and where its duty stands.
-#[derive(Clone, Copy)]
+#[derive(Clone, Copy, Default)]
 pub struct Channel {
     // 02h to 07h, 08h to 0Dh and 60h to 65h, as they read.
     pub config: u8,
@@ -31,7 +37,7 @@ pub struct Results {
 }
 
 // The registers of the whole box that can be written. 00h is kept without its status bit.
-#[derive(Clone, Copy)]
+#[derive(Clone, Copy, Default)]
 pub struct Registers {
     pub control: u8,
     pub frequency: u8,
@@ -41,7 +47,7 @@ pub struct Registers {
 }
 
 // The pin-set values that start was given: a reset needs them again.
-#[derive(Clone, Copy)]
+#[derive(Clone, Copy, Default)]
 pub struct StartValues {
     pub watchdog: u8,
     pub spinup: u8,
@@ -52,7 +58,7 @@ pub struct StartValues {
 }
 
 // What a tick moves besides the channels: the clock, the watchdog, and the wait that the channels share.
-#[derive(Clone, Copy)]
+#[derive(Clone, Copy, Default)]
 pub struct Timer {
     pub clock: u32,
     pub idle: u16,
@@ -63,7 +69,7 @@ pub struct Timer {
     pub status: bool,
 }
 
-#[derive(Clone, Copy)]
+#[derive(Clone, Copy, Default)]
 pub struct State {
     pub channels: [Channel; 6],
     pub registers: Registers,
@@ -82,13 +88,6 @@ pub struct Conditions {
     pub option: u8,
     // Some channel has its fault bit set.
     pub faulty: bool,
-}
-
-// The duty that an override forces, if one is in force.
-#[derive(Clone, Copy)]
-pub enum Override {
-    None,
-    Duty(u16),
 }
 
 // A register of the whole box that can be written: 00h, 01h, 12h, 13h, 14h.
@@ -116,15 +115,15 @@ pub enum WordRegister {
     TargetCount,
 }
 
-// A register that can only be read; of a channel's, which channel (0 to 5) and whether it is the low byte.
+// A register that can only be read; of a channel's, which channel and whether it is the low byte.
 #[derive(Clone, Copy)]
 pub enum StatusRegister {
     Faults2,
     Faults1,
-    Count(usize, bool),
+    Count(ChannelIndex, bool),
     // The count of one of the tachometers 7 to 12, which this box does not have.
     OtherCount(bool),
-    Output(usize, bool),
+    Output(ChannelIndex, bool),
 }
 
 // What stands at an address, and so what may be done there.
@@ -133,42 +132,22 @@ pub enum Place {
     Absent,
     ReadOnly(StatusRegister),
     Shared(BoxRegister),
-    Own(ChannelRegister, usize),
-    // One byte of the register: of which channel (0 to 5), and whether it is the low one.
-    OwnWord(WordRegister, usize, bool),
+    Own(ChannelRegister, ChannelIndex),
+    // One byte of the register: of which channel, and whether it is the low one.
+    OwnWord(WordRegister, ChannelIndex, bool),
 }
 
-// The refusal numbers; 0 is accepted.
-pub const ACCEPTED: u8 = 0;
-
-pub const STATE_NOT_VALID: u8 = 1;
-
-pub const NOT_CARRIED: u8 = 2;
-
-pub const READ_ONLY: u8 = 3;
-
-pub const CONFIG_NOT_ALLOWED: u8 = 4;
-
-pub const NO_SUCH_CHANNEL: u8 = 5;
-
-pub const SPEED_OUT_OF_RANGE: u8 = 6;
-
-pub const START_OUT_OF_RANGE: u8 = 7;
-
-pub const WRONG_WIDTH: u8 = 8;
-
-// What a call gives back.
+// What an accepted read gives: the byte, and the state after it.
 #[derive(Clone, Copy)]
-pub struct Answer {
-    pub refusal: u8,
+pub struct ByteRead {
+    pub byte: u8,
     pub state: State,
 }
 
-// What a read gives back.
+// What any accepted call gives: of a read the byte, and the state after it.
 #[derive(Clone, Copy)]
-pub struct ReadAnswer {
-    pub refusal: u8,
-    pub byte: u8,
+pub struct Made {
+    pub byte: Option<u8>,
     pub state: State,
 }
 
@@ -191,18 +170,14 @@ pub enum Call {
     Pulse(u32),
 }
 
-// What a FAN_FAIL query gives back: whether it is asserted, how many unmasked channels have failed, and the lowest of
-// them (1 to 6), or 0.
+// The unmasked channels that have failed: how many, and the lowest of them (1 to 6).
 #[derive(Clone, Copy)]
-pub struct FanFailAnswer {
-    pub refusal: u8,
-    pub asserted: bool,
-    pub failed: u32,
+pub struct Failed {
+    pub count: u32,
     pub lowest: u32,
-    pub state: State,
 }
 
-// What the speed calculation gives back.
+// What the speed calculation gives.
 #[derive(Clone, Copy)]
 pub enum Speed {
     // Revolutions a minute.
@@ -211,7 +186,6 @@ pub enum Speed {
     Stopped,
     // The count is 0: the fan turns too fast for its range.
     TooFast,
-    Refused,
 }
 
 // The clock in seconds, and each output duty as a share of full speed.
@@ -219,12 +193,4 @@ pub enum Speed {
 pub struct Reading {
     pub seconds: f64,
     pub shares: [f64; 6],
-}
-
-// What a reading gives back.
-#[derive(Clone, Copy)]
-pub struct ReadingAnswer {
-    pub refusal: u8,
-    pub reading: Reading,
-    pub state: State,
 }

@@ -15,7 +15,7 @@ use Rattle.rules.specs.Write.{write_refusal, written, box_written, write_of}
 use Rattle.rules.specs.Read.{place_byte, box_byte, read_at, read_of}
 use Rattle.rules.specs.Make.{made}
 use Rattle.rules.specs.declared.Call.TheVariants as call
-use Rattle.strings.specs.declared.Order.TheVariants.{Write, WriteWord}
+use Rattle.strings.specs.declared.order.Order.TheVariants.{Write, WriteWord}
 use Rattle.strings.specs.Number.{string_ends, long_form, number_too_large, group_of}
 use Rattle.strings.specs.Record.{no_record, kind_of, number_of, step_of}
 use Rattle.strings.specs.String.{whole, refused, record_from, front_of}

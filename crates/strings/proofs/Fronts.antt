@@ -7,9 +7,9 @@ use native.Mathlib.Omega.{arith}
 use lib.ListN.{length, drop, length-drop}
 use lib.Seq.{drop-drop}
 use Rattle.strings.specs.Types.{Call, Group, Partial, Step, Found}
-use Rattle.strings.specs.declared.Group.TheVariants as group
-use Rattle.strings.specs.declared.Step.TheVariants.{More, Whole, Refused}
-use Rattle.strings.specs.declared.Found.TheVariants as found
+use Rattle.strings.specs.Group as group
+use Rattle.strings.specs.Step.{More, Whole, Refused}
+use Rattle.strings.specs.Found as found
 use Rattle.strings.specs.Number.{group_of}
 use Rattle.strings.specs.Record.{blank, kind_of, number_of, group_taken, step_of}
 use Rattle.strings.proofs.Stages.{by_kind}

@@ -10,8 +10,8 @@ use lib.Pow.{pow-add, pow_mono}
 use borrow.Author.Tests.{lt-ltb, le-ltb, ne_eqb, ltb-true, ltb-false, eqb-true, eqb-false}
 use Rattle.rules.proofs.Tests.{by-test, choice}
 use Rattle.strings.specs.Types.{Group, Stage, Kind, WriteAddress, WriteByte, ReadAddress, TickCount, ResultChannel, ResultCount, PinLevel, WordAddress, WordValue, PulseChannel, Partial, Step}
-use Rattle.strings.specs.declared.Group.TheVariants as group
-use Rattle.strings.specs.declared.Step.TheVariants.{More, Whole, Refused}
+use Rattle.strings.specs.Group as group
+use Rattle.strings.specs.Step.{More, Whole, Refused}
 use Rattle.strings.specs.Number.{group_of}
 use Rattle.strings.specs.Record.{begun, number_of, group_taken, step_of, HalfRead}
 use Rattle.strings.proofs.Stages.{by_kind}

@@ -10,7 +10,7 @@ use lib.Pow.{pow-add, shr_lt}
 use borrow.Author.Tests.{lt-ltb, le-ltb, eq-eqb, ltb-true, ltb-false, eqb-false}
 use Rattle.rules.proofs.Tests.{by-test, choice, and_left, and_right}
 use Rattle.strings.specs.Types.{Group}
-use Rattle.strings.specs.declared.Group.TheVariants.{More, Last, Refused}
+use Rattle.strings.specs.Group.{More, Last, Refused}
 use Rattle.strings.specs.Number.{group_of}
 use Rattle.strings.specs.Encode.{bytes_within, number_bytes}
 use Rattle.strings.proofs.Groups.{last-group, more-group, GroupKept, group-kept}

@@ -12,9 +12,9 @@ use Rattle.rules.specs.Basics.{flag}
 use Rattle.rules.specs.declared.Call.TheVariants as call
 use Rattle.rules.proofs.Tests.{choice, and_left, and_right}
 use Rattle.strings.specs.Types.{Call, Group, Stage, Kind, WriteAddress, WriteByte, ReadAddress, TickCount, ResultChannel, ResultCount, PinLevel, WordAddress, WordValue, PulseChannel, Partial, Step, Order}
-use Rattle.strings.specs.declared.Group.TheVariants as group
-use Rattle.strings.specs.declared.Step.TheVariants.{More, Whole, Refused}
-use Rattle.strings.specs.declared.Order.TheVariants.{Write, Read, Ticks, Tachometer, Pin, WriteWord, Pulse}
+use Rattle.strings.specs.Group as group
+use Rattle.strings.specs.Step.{More, Whole, Refused}
+use Rattle.strings.specs.declared.order.Order.TheVariants.{Write, Read, Ticks, Tachometer, Pin, WriteWord, Pulse}
 use Rattle.strings.specs.Number.{group_of}
 use Rattle.strings.specs.Record.{write_kind, read_kind, ticks_kind, tachometer_kind, pin_kind, write_word_kind, pulse_kind, begun, blank, kind_of, number_of, group_taken, step_of}
 use Rattle.strings.specs.String.{Front, whole, end, refused, stepped, record_from, front_of}

@@ -7,7 +7,7 @@ use borrow.Author.Tests.{eqb-true}
 use Rattle.std.specs.Prelude.{if◌then◌else◌}
 use Rattle.rules.proofs.Tests.{choice}
 use Rattle.strings.specs.Types.{Stage, Kind, WriteAddress, WriteByte, ReadAddress, TickCount, ResultChannel, ResultCount, PinLevel, WordAddress, WordValue, PulseChannel, Step}
-use Rattle.strings.specs.declared.Step.TheVariants.{More, Refused}
+use Rattle.strings.specs.Step.{More, Refused}
 use Rattle.strings.specs.Record.{no_record, write_kind, read_kind, ticks_kind, tachometer_kind, pin_kind, write_word_kind, pulse_kind, begun, kind_of}
 
 -- the numbers of a record that were read before a stage

@@ -3,7 +3,7 @@ use Rattle.std.specs.Prelude.{ℕ, zero, suc, ◌+◌, ◌/◌, ◌%◌, List, [
 use Rattle.rules.specs.Basics.{flag}
 use Rattle.rules.specs.declared.Call.TheVariants as call
 use Rattle.strings.specs.Types.{Call, Order}
-use Rattle.strings.specs.declared.Order.TheVariants.{Write, Read, Ticks, Tachometer, Pin, WriteWord, Pulse}
+use Rattle.strings.specs.declared.order.Order.TheVariants.{Write, Read, Ticks, Tachometer, Pin, WriteWord, Pulse}
 use Rattle.strings.specs.Record.{write_kind, read_kind, ticks_kind, tachometer_kind, pin_kind, write_word_kind, pulse_kind}
 
 -- the bytes of a number, where there is room for so many

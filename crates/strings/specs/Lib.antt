@@ -1,3 +1,6 @@
+pub mod Group
+pub mod Step
+pub mod Found
 pub mod Types
 pub mod Number
 pub mod Record
@@ -6,3 +9,5 @@ pub mod Encode
 pub mod Trips
 pub mod Run
 pub mod OneByOne
+pub mod Kinds
+pub mod Refusals

@@ -2,7 +2,7 @@
 -- last, shortest form only, at most 4,294,967,295".
 use Rattle.std.specs.Prelude.{ℕ, ◌+◌, ◌*◌, ◌%◌, ◌^◌, ◌&&◌, ltb, eqb, if◌then◌else◌}
 use Rattle.strings.specs.Types.{Group}
-use Rattle.strings.specs.declared.Group.TheVariants.{More, Last, Refused}
+use Rattle.strings.specs.Group.{More, Last, Refused}
 
 -- "then number by number 12 (fifth byte above 15), 11 (last byte 0 after another), 10 (string ends first)"
 abbrev pub string_ends : ℕ

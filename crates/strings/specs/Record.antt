@@ -3,8 +3,8 @@
 use Rattle.std.specs.Prelude.{ℕ, ◌+◌, ◌*◌, ◌^◌, ◌≤◌, ◌<◌, ltb, eqb, if◌then◌else◌}
 use Rattle.rules.specs.declared.Call.TheVariants.{Write, Read, Ticks, Tachometer, Pin, WriteWord, Pulse}
 use Rattle.strings.specs.Types.{Group, Stage, Kind, WriteAddress, WriteByte, ReadAddress, TickCount, ResultChannel, ResultCount, PinLevel, WordAddress, WordValue, PulseChannel, Partial, Step}
-use Rattle.strings.specs.declared.Group.TheVariants as group
-use Rattle.strings.specs.declared.Step.TheVariants.{More, Whole, Refused}
+use Rattle.strings.specs.Group as group
+use Rattle.strings.specs.Step.{More, Whole, Refused}
 use Rattle.strings.specs.Number.{group_of}
 
 -- "13 for an unknown kind as soon as it is read, for a write value or pin once the record is read"; since K6 "13 also covers a word

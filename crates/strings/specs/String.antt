@@ -1,8 +1,8 @@
 -- The record at the front of a string: "A reader over the lent string hands out one record at a time."
 use Rattle.std.specs.Prelude.{ℕ, ◌-◌, List, [], ◌∷◌, length, drop}
 use Rattle.strings.specs.Types.{Call, Partial, Step, Found}
-use Rattle.strings.specs.declared.Step.TheVariants.{More, Whole, Refused}
-use Rattle.strings.specs.declared.Found.TheVariants as found
+use Rattle.strings.specs.Step.{More, Whole, Refused}
+use Rattle.strings.specs.Found as found
 use Rattle.strings.specs.Number.{string_ends}
 use Rattle.strings.specs.Record.{blank, step_of}
 

@@ -4,8 +4,8 @@ use Rattle.std.specs.Prelude.{ℕ, ◌+◌, ◌^◌, ◌<◌, ◌≡◌, Bool, t
 use Rattle.rules.specs.Basics.{every}
 use Rattle.rules.specs.declared.Call.TheVariants as call
 use Rattle.strings.specs.Types.{Call, Group, Order}
-use Rattle.strings.specs.declared.Group.TheVariants.{More, Last, Refused}
-use Rattle.strings.specs.declared.Order.TheVariants.{Write, Read, Ticks, Tachometer, Pin, WriteWord, Pulse}
+use Rattle.strings.specs.Group.{More, Last, Refused}
+use Rattle.strings.specs.declared.order.Order.TheVariants.{Write, Read, Ticks, Tachometer, Pin, WriteWord, Pulse}
 use Rattle.strings.specs.Number.{string_ends, group_of}
 use Rattle.strings.specs.Record.{no_record}
 use Rattle.strings.specs.String.{Front, whole, refused, front_of}

@@ -1,41 +1,21 @@
-// The plain types that order strings are read, written and run with. specs/ says what they mean; no function stands here.
+// The plain types that order strings are read, written and run with. specs/ says what they mean.
 #![tactic(auto)]
+
+mod kind;
+mod order;
+mod refusal;
+
+pub use kind::Kind;
+pub use order::Order;
+pub use refusal::{RunRefusal, StringRefusal};
 
 use rules::{Call, State};
 
-// The refusals of a string that is read, and of a run whose answer buffer is shorter than the string. A call's own refusals are
-// the rules'.
-pub const STRING_ENDS: u8 = 10;
-
-pub const LONG_FORM: u8 = 11;
-
-pub const NUMBER_TOO_LARGE: u8 = 12;
-
-pub const NO_RECORD: u8 = 13;
-
-pub const ANSWERS_TOO_SHORT: u8 = 15;
-
-// The kinds of records.
-pub const WRITE: u32 = 0;
-
-pub const READ: u32 = 1;
-
-pub const TICKS: u32 = 2;
-
-pub const TACHOMETER: u32 = 3;
-
-pub const PIN: u32 = 4;
-
-pub const WRITE_WORD: u32 = 5;
-
-pub const PULSE: u32 = 6;
-
-// What a byte makes of a number: what its groups are worth so far, with more to come or as the last; or a refusal.
+// What a byte makes of a number: what its groups are worth so far, with more to come or as the last.
 #[derive(Clone, Copy)]
 pub enum Group {
     More(u32),
     Last(u32),
-    Refused(u8),
 }
 
 // Which number of a record is being read, with the one before it where that is kept.
@@ -62,45 +42,25 @@ pub struct Partial {
     pub value: u32,
 }
 
-// What a byte makes of a record: more is to come, it is whole, or it is refused.
+// What a byte makes of a record: more is to come, or it is whole.
 #[derive(Clone, Copy)]
 pub enum Step {
     More(Partial),
     Whole(Call),
-    Refused(u8),
 }
 
-// What stands at an index of a string: a record, as its call, and the index after it; the string's end; or a refusal.
+// A record that stands in a string: its call, and the index after it.
 #[derive(Clone, Copy)]
-pub enum Found {
-    Record(Call, usize),
-    End,
-    Refused(u8),
+pub struct Found {
+    pub call: Call,
+    pub next: usize,
 }
 
-// A record as its kind and its numbers, whatever they are: one that will be refused is written as well.
-#[derive(Clone, Copy)]
-pub enum Order {
-    // The address and the value.
-    Write(u32, u32),
-    // The address.
-    Read(u32),
-    // How many ticks.
-    Ticks(u32),
-    // The channel and the count.
-    Tachometer(u32, u32),
-    // The level: 0 is low, 1 is high.
-    Pin(u32),
-    // The address and the word.
-    WriteWord(u32, u32),
-    // The channel.
-    Pulse(u32),
-}
-
-// What a run gives back, besides the answers in their buffer: how many records it took, and how many answer bytes there are.
+// What a run gives, besides the answers in their buffer: why it stopped before the end, if it did; how many records it took, and how
+// many answer bytes there are.
 #[derive(Clone, Copy)]
 pub struct RunAnswer {
-    pub refusal: u8,
+    pub outcome: Result<(), RunRefusal>,
     pub taken: u32,
     pub answered: usize,
     pub state: State,

@@ -1,6 +1,6 @@
 -- A refused reading is all 0, and any other is the clock and the shares, each exact.
 use Rattle.std.proofs.Common.{◌≡◌, ◌<◌, ◌^◌, refl, sym, ◌∙◌, length, replicate, rules}
-use Rattle.rules.specs.declared.ReadingAnswer.{ReadingAnswer}
+use Rattle.rules.specs.Types.{ReadingAnswer}
 use Rattle.rules.specs.Reading.{over512}
 use Rattle.laws.proofs.Each.{length_before}
 use Rattle.laws.proofs.Exact.{zero-over-512, reading-refused, reading-given}

@@ -1,7 +1,7 @@
 -- Jump by jump.
 use Rattle.std.proofs.Common.{◌≡◌, suc, ◌<◌, map, length, drop, sym, ap, ◌∙◌, add-one, arith, drop-cons}
 use lib.Seq.{drop-length}
-use Rattle.rules.specs.declared.Answer.{Answer}
+use Rattle.rules.specs.Types.{Answer}
 use Rattle.rules.specs.declared.Call.TheVariants.{Ticks}
 use Rattle.rules.specs.Make.{made, after_each, each_passed}
 use Rattle.laws.proofs.Promises.{not_valid, is-valid}
