@@ -4,7 +4,6 @@
 mod refusal;
 
 pub use refusal::GalleyRefusal;
-
 use rules::State;
 
 // The bytes of a table, one a row.

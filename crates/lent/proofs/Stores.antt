@@ -7,7 +7,8 @@ use native.Mathlib.Omega.{arith}
 use native.Mathlib.Numerals.{add-one}
 use lib.ListN.{length, get_or, take, drop, set, length-set, length-append, drop_of_length-le}
 use lib.Seq.{sets, length-sets, set_out, sets-eq, drop-cons}
-use Rattle.lent.specs.Put.{Put}
+use Rattle.lent.specs.declared.Page.{Page}
+use Rattle.lent.specs.Put.{Put, Puts}
 
 pub sets-out : (out : List ℕ) (at : ℕ) (bytes : List ℕ) → length out ≤ at → sets out at bytes ≡ out
 sets-out out at [] h = refl
@@ -49,6 +50,10 @@ put-append {at} {next} {last} {before} {between} {after} {first} {second} p q =
           rw length-append (omega arith);
     }
 
+pub puts-append : {before between after : Page} {first second : List ℕ} →
+    Puts first before between → Puts second between after → Puts (first ++ second) before after
+puts-append p q = record { put = put-append p.put q.put; same = q.same ∙ p.same }
+
 -- where there is room, the bytes stand from the index on, and the rest is as it was
 pub put-with-room : {at next : ℕ} {before after bytes : List ℕ} → Put bytes at before after next → at + length bytes ≤ length before →
     (after ≡ take at before ++ bytes ++ drop (at + length bytes) before) × (next ≡ at + length bytes)
@@ -88,12 +93,10 @@ module _ {out bytes before : List ℕ} {next at : ℕ} where
   pub none-remains : Remains [] next out bytes at before → Put bytes at before out next
   none-remains r = record { stored = r.stored; index = omega (arith, r.index) }
 
-  -- past the buffer's end nothing more is stored; at its end a byte is left out
-  pub past_end : (rest : List ℕ) → length out < next → Remains rest next out bytes at before → Put bytes at before out next
-  past_end rest h r = record { stored = sym (sets-out out next rest (omega arith)) ∙ r.stored; index = omega (arith, r.index) }
-
-  pub at-end : (rest : List ℕ) → 0 < length rest → next ≡ length out → Remains rest next out bytes at before → Put bytes at before out (next + 1)
-  at-end rest some h r = record { stored = sym (sets-out out next rest (omega arith)) ∙ r.stored; index = omega (arith, r.index) }
+  -- at the buffer's end a byte is left out, and past it nothing more is stored
+  pub left-out : (rest : List ℕ) {last : ℕ} → 0 < length rest → length out ≤ next → last ≡ max next (length out + 1) →
+      Remains rest next out bytes at before → Put bytes at before out last
+  left-out rest some h e r = record { stored = sym (sets-out out next rest h) ∙ r.stored; index = omega (arith, r.index) }
 
   -- byte after byte
   module _ (i : ℕ) (r : Remains (drop i bytes) next out bytes at before) where

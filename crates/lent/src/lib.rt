@@ -1,54 +1,52 @@
 // What the library and the console do alike with what they are lent: bytes put into a buffer, and numbers taken out of a list.
 #![tactic(auto)]
 
-ghost use Rattle.std.specs.Prelude.{◌≡◌, ◌≤◌, min, take};
-ghost use Rattle.rules.specs.Basics.{flag as Basics·flag};
-ghost use Rattle.lent.specs.Put.{Put};
+ghost use Rattle.std.specs.Prelude.{◌≡◌, take, drop};
+ghost use Rattle.lent.specs.Put.{Puts};
 ghost use Rattle.lent.specs.Values.{number, byte_of, word_of};
 
-// Puts bytes into a buffer from an index on, as many as there is room for, and gives the index after them: past the
-// buffer's end where a byte was left out.
-pub fn put(bytes: &[u8], out: &mut [u8], at: usize) -> usize
-    ensures { Put bytes.now at out.old out.new result }
-{
-    let mut next = at;
-    let mut i = 0;
-    while i < bytes.len() {
-        if out.len() <= next {
-            if out.len() < next {
-                return next;
+// A lent buffer, and the index that the next byte goes to: past the buffer's end where a byte was left out.
+#[derive(Drop)]
+pub struct Page<'a> {
+    pub bytes: &'a mut [u8],
+    pub at: usize,
+}
+
+impl<'a> Page<'a> {
+    // Puts bytes, as many as there is room for.
+    pub fn put(&mut self, text: &[u8])
+        ensures { Puts text.now self.old self.new }
+    {
+        for byte in text {
+            if self.bytes.len() <= self.at {
+                self.at = self.at.max(self.bytes.len() + 1);
+                return;
             }
-            return next + 1;
+            self.bytes[self.at] = *byte;
+            self.at += 1;
         }
-        out[next] = bytes[i];
-        next += 1;
-        i += 1;
     }
-    next
 }
 
-pub fn lesser(a: usize, b: usize) -> usize
-    ensures { result ≡ min a b }
+// So many items from the first on, or all of them.
+pub fn front<T>(items: &[T], count: usize) -> &[T]
+    ensures { result.now ≡ take count items.now }
 {
-    if a < b { a } else { b }
+    &items[..count.min(items.len())]
 }
 
-// So many bytes from the first on, or all of them.
-pub fn front(bytes: &[u8], count: usize) -> &[u8]
-    ensures { result.now ≡ take count bytes.now }
+// The items after so many.
+pub fn after<T>(items: &[T], count: usize) -> &[T]
+    ensures { result.now ≡ drop count items.now }
 {
-    let end = lesser(count, bytes.len());
-    &bytes[..end]
+    &items[count.min(items.len())..]
 }
 
 // A number of a list, 0 where there are not so many; its low bits, as much as a u8 or a u16 holds.
 pub fn value(values: &[u32], i: usize) -> u32
     ensures { result ≡ number values.now i }
 {
-    if i < values.len() {
-        return values[i];
-    }
-    0
+    values.get(i).copied().unwrap_or(0)
 }
 
 pub fn byte(values: &[u32], i: usize) -> u8
@@ -61,14 +59,4 @@ pub fn word(values: &[u32], i: usize) -> u16
     ensures { result ≡ word_of (number values.now i) }
 {
     (value(values, i) % 65536) as u16
-}
-
-// A flag as a number.
-pub fn flag(on: bool) -> u32
-    ensures { (result ≡ Basics·flag on) × (result ≤ 1) }
-{
-    if on {
-        return 1;
-    }
-    0
 }

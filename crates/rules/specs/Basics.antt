@@ -1,6 +1,5 @@
 -- What the other files are written in: tests over a list, and the bits of a number.
 use Rattle.std.specs.Prelude.{ℕ, ◌+◌, ◌-◌, ◌*◌, ◌/◌, ◌%◌, ◌^◌, Bool, not, ◌||◌, if◌then◌else◌, eqb}
-
 -- the test holds of every element; of some element
 pub use Rattle.std.specs.List.{list_all as every, list_any as some}
 

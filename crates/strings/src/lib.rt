@@ -8,7 +8,6 @@ mod refusal;
 pub use kind::Kind;
 pub use order::Order;
 pub use refusal::{RunRefusal, StringRefusal};
-
 use rules::{Call, State};
 
 // What a byte makes of a number: what its groups are worth so far, with more to come or as the last.
