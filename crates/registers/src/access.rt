@@ -2,14 +2,18 @@
 ghost use Rattle.std.specs.Prelude.{◌≡◌};
 ghost use Rattle.rules.specs.Calls.{accessed};
 
-use rules::State;
+use rules::{State, Timer};
 
 // The state after an accepted read or write: the watchdog has been fed.
 pub fn accessed(state: State) -> State
     ensures { result ≡ accessed state }
 {
-    let mut next = state;
-    next.timer.idle = 0;
-    next.timer.expired = false;
-    next
+    State {
+        timer: Timer {
+            idle: 0,
+            expired: false,
+            ..state.timer
+        },
+        ..state
+    }
 }

@@ -14,10 +14,7 @@ pub fn control_kept(byte: u8) -> u8
 pub fn control_byte(control: u8, status: bool) -> u8
     ensures { result ≡ control_byte control status }
 {
-    if status {
-        return control / 2 % 128 * 2 + 1;
-    }
-    control / 2 % 128 * 2
+    control / 2 % 128 * 2 + u8::from(status)
 }
 
 // 08h to 0Dh.

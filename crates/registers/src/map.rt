@@ -1,96 +1,38 @@
 // The register map: what stands at an address.
-ghost use Rattle.std.specs.Prelude.{◌≡◌, ◌≤◌};
-ghost use Rattle.rules.specs.Map.{setting_at, status_at, target_at, place_at};
+ghost use Rattle.std.specs.Prelude.{◌≡◌, ◌<◌};
+ghost use Rattle.rules.specs.Map.{place_at};
 
-use rules::{BoxRegister, ChannelRegister, Place, StatusRegister, WordRegister};
+use rules::{BoxRegister, ChannelIndex, ChannelRegister, Place, StatusRegister, WordRegister};
 
-fn setting_at(a: u32) -> Place
-    ensures { result ≡ setting_at a }
+fn channel(n: u32) -> ChannelIndex
+    requires { n < 6 }
+    ensures { result ≡ n }
 {
-    if a < 0x01 {
-        return Place::Shared(BoxRegister::Control);
-    }
-    if a < 0x02 {
-        return Place::Shared(BoxRegister::Frequency);
-    }
-    if a < 0x08 {
-        return Place::Own(ChannelRegister::Config, (a - 0x02) as usize);
-    }
-    if a < 0x0E {
-        return Place::Own(ChannelRegister::Dynamics, (a - 0x08) as usize);
-    }
-    if a < 0x10 {
-        return Place::Absent;
-    }
-    if a < 0x11 {
-        return Place::ReadOnly(StatusRegister::Faults2);
-    }
-    if a < 0x12 {
-        return Place::ReadOnly(StatusRegister::Faults1);
-    }
-    if a < 0x13 {
-        return Place::Shared(BoxRegister::Mask2);
-    }
-    if a < 0x14 {
-        return Place::Shared(BoxRegister::Mask1);
-    }
-    if a < 0x15 {
-        return Place::Shared(BoxRegister::Options);
-    }
-    Place::Absent
+    ChannelIndex::new(n as usize)
 }
 
-fn status_at(a: u32) -> Place
-    requires { 0x18 ≤ a }
-    ensures { result ≡ status_at a }
-{
-    if a < 0x24 {
-        let n = a - 0x18;
-        return Place::ReadOnly(StatusRegister::Count((n / 2) as usize, n % 2 == 1));
-    }
-    if a < 0x30 {
-        return Place::ReadOnly(StatusRegister::OtherCount((a - 0x24) % 2 == 1));
-    }
-    if a < 0x3C {
-        let n = a - 0x30;
-        return Place::ReadOnly(StatusRegister::Output((n / 2) as usize, n % 2 == 1));
-    }
-    Place::Absent
-}
-
-fn target_at(a: u32) -> Place
-    requires { 0x40 ≤ a }
-    ensures { result ≡ target_at a }
-{
-    if a < 0x4C {
-        let n = a - 0x40;
-        return Place::OwnWord(WordRegister::Target, (n / 2) as usize, n % 2 == 1);
-    }
-    if a < 0x50 {
-        return Place::Absent;
-    }
-    if a < 0x5C {
-        let n = a - 0x50;
-        return Place::OwnWord(WordRegister::TargetCount, (n / 2) as usize, n % 2 == 1);
-    }
-    if a < 0x60 {
-        return Place::Absent;
-    }
-    if a < 0x66 {
-        return Place::Own(ChannelRegister::Window, (a - 0x60) as usize);
-    }
-    Place::Absent
-}
-
-// What stands at an address.
+// What stands at an address. The rows of words have the low bytes at the odd addresses.
+#[tactic(auto, unfolding(rules::specs::Map::place_at, rules::specs::Map::setting_at, rules::specs::Map::status_at, rules::specs::Map::target_at))]
 pub fn place_at(a: u32) -> Place
     ensures { result ≡ place_at a }
 {
-    if a < 0x18 {
-        return setting_at(a);
+    let low = a % 2 == 1;
+    match a {
+        0x00 => Place::Shared(BoxRegister::Control),
+        0x01 => Place::Shared(BoxRegister::Frequency),
+        0x02..=0x07 => Place::Own(ChannelRegister::Config, channel(a - 0x02)),
+        0x08..=0x0D => Place::Own(ChannelRegister::Dynamics, channel(a - 0x08)),
+        0x10 => Place::ReadOnly(StatusRegister::Faults2),
+        0x11 => Place::ReadOnly(StatusRegister::Faults1),
+        0x12 => Place::Shared(BoxRegister::Mask2),
+        0x13 => Place::Shared(BoxRegister::Mask1),
+        0x14 => Place::Shared(BoxRegister::Options),
+        0x18..=0x23 => Place::ReadOnly(StatusRegister::Count(channel((a - 0x18) / 2), low)),
+        0x24..=0x2F => Place::ReadOnly(StatusRegister::OtherCount(low)),
+        0x30..=0x3B => Place::ReadOnly(StatusRegister::Output(channel((a - 0x30) / 2), low)),
+        0x40..=0x4B => Place::OwnWord(WordRegister::Target, channel((a - 0x40) / 2), low),
+        0x50..=0x5B => Place::OwnWord(WordRegister::TargetCount, channel((a - 0x50) / 2), low),
+        0x60..=0x65 => Place::Own(ChannelRegister::Window, channel(a - 0x60)),
+        _ => Place::Absent,
     }
-    if a < 0x40 {
-        return status_at(a);
-    }
-    target_at(a)
 }
