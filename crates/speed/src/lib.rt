@@ -4,7 +4,7 @@
 ghost use Rattle.std.specs.Prelude.{◌≡◌, ◌<◌, ◌/◌};
 ghost use Rattle.rules.specs.Speed.{speed_refused, speed_of, SpeedTold};
 
-use rules::Speed;
+use rules::{Refusal, Speed};
 
 const RANGES: [u32; 8] = [1, 2, 4, 8, 16, 32, 32, 32];
 
@@ -19,11 +19,9 @@ fn divide(dividend: u32, divisor: u32) -> u32
     requires { (dividend < 16777216) × (0 < divisor) }
     ensures { result ≡ dividend / divisor }
 {
-    let mut quotient: u32 = 0;
+    let mut quotient = 0;
     let mut rest = dividend;
-    let mut bit = QUOTIENT_BITS;
-    while 0 < bit {
-        bit -= 1;
+    for bit in (0..QUOTIENT_BITS).rev() {
         if divisor <= rest >> bit {
             rest -= divisor << bit;
             quotient += 1 << bit;
@@ -36,23 +34,21 @@ fn divide(dividend: u32, divisor: u32) -> u32
 fn refused(range: u32, pulses: u32, count: u32) -> bool
     ensures { result ≡ speed_refused range pulses count }
 {
-    (7 < range) | !((1 <= pulses) & (pulses <= 4)) | (2047 < count)
+    (7 < range) | !(1..=4).contains(&pulses) | (2047 < count)
 }
 
 // The speed of a fan with so many pulses a revolution, by its channel's range code and its tachometer count.
-pub fn speed(range: u32, pulses: u32, count: u32) -> Speed
+#[tactic(auto, unfolding(rules::specs::Speed::speed_of, rules::specs::Speed::speed_refused, rules::specs::Speed::speed_range))]
+pub fn speed(range: u32, pulses: u32, count: u32) -> Result<Speed, Refusal>
     ensures equal { result ≡ speed_of range pulses count }
     ensures told { SpeedTold range pulses count result }
 {
     if refused(range, pulses, count) {
-        return Speed::Refused;
+        return Err(Refusal::SpeedOutOfRange);
     }
-    if count == 2047 {
-        return Speed::Stopped;
+    match count {
+        2047 => Ok(Speed::Stopped),
+        0 => Ok(Speed::TooFast),
+        _ => Ok(Speed::Rpm(divide(491520 * RANGES[range as usize], pulses * count))),
     }
-    if count == 0 {
-        return Speed::TooFast;
-    }
-    let factor = RANGES[range as usize];
-    Speed::Rpm(divide(491520 * factor, pulses * count))
 }

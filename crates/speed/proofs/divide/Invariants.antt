@@ -4,6 +4,3 @@ use Rattle.speed.proofs.divide.Given as goal
 
 abbrev pub invariant-loop-bit : goal.invariant-loop-bit
 invariant-loop-bit l = Dividing l.dividend l.divisor l.quotient l.rest l.bit
-
-abbrev pub decreases-loop-bit : goal.decreases-loop-bit
-decreases-loop-bit l = l.bit
