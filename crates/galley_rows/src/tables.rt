@@ -1,44 +1,44 @@
 // The two lent tables: their length, and the duty of a row.
-ghost use Rattle.std.specs.Prelude.{◌≡◌, get_or};
+ghost use Rattle.std.specs.Prelude.{◌≡◌};
 ghost use Rattle.galley_rules.specs.Table.{are_tables, in_force, duty_of, row_duty};
 
 use galley_rules::TABLE_BYTES;
 
-#[tactic(auto, unfolding(galley_rules::specs::Table::are_tables))]
-pub fn are_tables(normal: &[u8], quiet: &[u8]) -> bool
-    ensures { result ≡ are_tables normal.now quiet.now }
-{
-    (normal.len() == TABLE_BYTES) & (quiet.len() == TABLE_BYTES)
+// The normal and the quiet table, which go from call to call together.
+#[derive(Clone, Copy)]
+pub struct Tables<'a> {
+    pub normal: &'a [u8],
+    pub quiet: &'a [u8],
+}
+
+impl<'a> Tables<'a> {
+    // Both have a byte for each row, and no more.
+    #[tactic(auto, unfolding(galley_rules::specs::Table::are_tables))]
+    pub fn are_whole(self) -> bool
+        ensures { result ≡ are_tables self.entry.normal.now self.entry.quiet.now }
+    {
+        (self.normal.len() == TABLE_BYTES) & (self.quiet.len() == TABLE_BYTES)
+    }
+
+    // The table in force: the quiet one while its flag is set.
+    pub fn in_force(self, quiet: bool) -> &'a [u8]
+        ensures { result.now ≡ in_force quiet self.entry.normal.now self.entry.quiet.now }
+    {
+        if quiet { self.quiet } else { self.normal }
+    }
 }
 
 // A table's byte as a duty.
 fn duty_of(v: u8) -> u16
     ensures { result ≡ duty_of v }
 {
-    if v == 0xFF {
-        return 511;
-    }
-    v as u16 * 2
+    if v == 0xFF { 511 } else { u16::from(v) * 2 }
 }
 
-// The byte of a row, 0 where the table has none.
-fn byte_of(table: &[u8], row: u8) -> u8
-    ensures { result ≡ get_or table.now row 0 }
-{
-    let at = row as usize;
-    if at < table.len() {
-        return table[at];
-    }
-    0
-}
-
-// The duty of a row in the table in force.
+// The duty of a row in a table: its byte is 0 where the table has none.
 #[tactic(auto, unfolding(galley_rules::specs::Table::row_duty))]
-pub fn row_duty(flag: bool, row: u8, normal: &[u8], quiet: &[u8]) -> u16
-    ensures { result ≡ row_duty (in_force flag normal.now quiet.now) row }
+pub fn row_duty(table: &[u8], row: u8) -> u16
+    ensures { result ≡ row_duty table.now row }
 {
-    if flag {
-        return duty_of(byte_of(quiet, row));
-    }
-    duty_of(byte_of(normal, row))
+    duty_of(table.get(usize::from(row)).copied().unwrap_or(0))
 }

@@ -20,27 +20,22 @@ const FIRST_STEPS: u32 = 8;
 pub fn in_range(t: i32) -> bool
     ensures { result ≡ in_range t }
 {
-    (LOWEST <= t) & (t <= HIGHEST)
+    (LOWEST..=HIGHEST).contains(&t)
 }
 
 pub fn is_above(t: i32, threshold: i16) -> bool
     ensures { result ≡ lt_z threshold t }
 {
-    (threshold as i32) < t
+    i32::from(threshold) < t
 }
 
 // The row of a temperature that is not below 0.
 fn row_from_zero(n: u32) -> u8
     ensures { result ≡ min (n / 16 - 8) 47 }
 {
-    let steps = n / STEP;
-    if steps < FIRST_STEPS {
-        return 0;
-    }
-    if LAST_ROW as u32 <= steps - FIRST_STEPS {
-        return LAST_ROW;
-    }
-    (steps - FIRST_STEPS) as u8
+    (n / STEP)
+        .saturating_sub(FIRST_STEPS)
+        .min(u32::from(LAST_ROW)) as u8
 }
 
 // The row of a temperature and so many eighths more: of one below 0 it is the first.
@@ -48,32 +43,22 @@ fn row_of(t: i32, more: u32) -> u8
     requires { more ≤ 32 }
     ensures { result ≡ row_of (t +ℤ pos more) }
 {
-    if t < 0 {
-        return 0;
+    match u32::try_from(t) {
+        Ok(n) => row_from_zero(n + more),
+        Err(_) => 0,
     }
-    row_from_zero(t as u32 + more)
 }
 
 fn eighths(hysteresis: bool) -> u32
     ensures { (result ≡ eighths_of hysteresis) × (result ≤ 32) }
 {
-    if hysteresis {
-        return 32;
-    }
-    16
+    if hysteresis { 32 } else { 16 }
 }
 
 // The row after a sample: a row between the sample's own and the one with the hysteresis stays.
+#[tactic(auto, unfolding(galley_rules::specs::Sample::row_after))]
 pub fn row_after(row: u8, t: i32, hysteresis: bool) -> u8
     ensures { result ≡ row_after row t (eighths_of hysteresis) }
 {
-    let lowest = row_of(t, 0);
-    let highest = row_of(t, eighths(hysteresis));
-    if row < lowest {
-        return lowest;
-    }
-    if highest < row {
-        return highest;
-    }
-    row
+    row.min(row_of(t, eighths(hysteresis))).max(row_of(t, 0))
 }
