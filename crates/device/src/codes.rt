@@ -15,33 +15,27 @@ const QUEUE_LENGTHS: [u8; 4] = [1, 2, 4, 6];
 const PERIOD_SHIFTS: [u32; 8] = [0, 0, 1, 2, 3, 4, 5, 6];
 
 // The idle ticks after which the watchdog expires, 0 where it is off.
+#[tactic(auto, unfolding(rules::specs::Time::watchdog_limit))]
 pub fn watchdog_limit(code: u8) -> u16
     ensures { result ≡ watchdog_limit code }
 {
-    if code < 4 {
-        return WATCHDOG_LIMITS[code as usize];
-    }
-    0
+    WATCHDOG_LIMITS.get(usize::from(code)).copied().unwrap_or(0)
 }
 
 // How long a spin-up lasts, 0 where there is none.
+#[tactic(auto, unfolding(rules::specs::Time::spin_ticks))]
 pub fn spin_ticks(code: u8) -> u16
     ensures { result ≡ spin_ticks code }
 {
-    if code < 4 {
-        return SPIN_TICKS[code as usize];
-    }
-    0
+    SPIN_TICKS.get(usize::from(code)).copied().unwrap_or(0)
 }
 
 // How long after a channel has left ramp value 0 no other may.
+#[tactic(auto, unfolding(rules::specs::Time::start_delay))]
 pub fn start_delay(code: u8) -> u16
     ensures { result ≡ start_delay code }
 {
-    if code < 8 {
-        return START_DELAYS[code as usize];
-    }
-    0
+    START_DELAYS.get(usize::from(code)).copied().unwrap_or(0)
 }
 
 // Whether spin-up ends when the fan turns: modification B.
@@ -52,13 +46,11 @@ pub fn ends_early(modification: u8) -> bool
 }
 
 // How many bad results in a row make a fault.
+#[tactic(auto, unfolding(rules::specs::Tachometer::queue_length))]
 pub fn queue_length(code: u8) -> u8
     ensures { result ≡ queue_length code }
 {
-    if code < 4 {
-        return QUEUE_LENGTHS[code as usize];
-    }
-    0
+    QUEUE_LENGTHS.get(usize::from(code)).copied().unwrap_or(0)
 }
 
 // The ticks from one step of a ramp to the next, of the three bits of a rate code, as the power of two that they are: a shift by so
@@ -66,9 +58,5 @@ pub fn queue_length(code: u8) -> u8
 pub fn period_shift(code: u8, doubled: bool) -> u32
     ensures { (2 ^ result ≡ rate_period (code % 8) doubled) × (result ≤ 7) }
 {
-    let shift = PERIOD_SHIFTS[(code % 8) as usize];
-    if doubled {
-        return shift + 1;
-    }
-    shift
+    PERIOD_SHIFTS[usize::from(code % 8)] + u32::from(doubled)
 }

@@ -10,15 +10,10 @@ fn start_channel(start: StartValues) -> Channel
     Channel {
         config: start.spinup % 4 * 0x20,
         dynamics: 0x4C,
-        window: 0,
         target: start.target,
         target_count: 480,
         count: 2047,
-        queue: 0,
-        fault: false,
-        ramp: 0,
-        spin: 0,
-        pulses: 0,
+        ..Channel::default()
     }
 }
 
@@ -26,10 +21,8 @@ fn start_channel(start: StartValues) -> Channel
 pub fn as_at_start(start: StartValues, clock: u32, pin: bool) -> State
     ensures { result ≡ as_at_start start clock pin }
 {
-    let channel = start_channel(start);
-    let channels = [channel; 6];
     State {
-        channels: channels,
+        channels: [start_channel(start); 6],
         registers: Registers {
             control: 0x20 + start.watchdog % 4 * 2,
             frequency: start.frequency,
@@ -37,14 +30,11 @@ pub fn as_at_start(start: StartValues, clock: u32, pin: bool) -> State
             mask1: 0x3F,
             options: 0x45,
         },
-        pin: pin,
-        start: start,
+        pin,
+        start,
         timer: Timer {
-            clock: clock,
-            idle: 0,
-            wait: 0,
-            expired: false,
-            status: false,
+            clock,
+            ..Timer::default()
         },
     }
 }

@@ -1,12 +1,10 @@
-// Whether a state is valid, and whether there is a channel of a number: the tests of refusals 1 and 5.
+// Whether a state is valid: the test of refusal 1.
 ghost use Rattle.std.specs.Prelude.{◌≡◌};
 ghost use Rattle.rules.specs.Basics.{every};
-ghost use Rattle.rules.specs.Calls.{is_channel};
 ghost use Rattle.rules.specs.Valid.{valid_settings, valid_results, valid_motion, valid_channel, valid_pulses, valid_registers, valid_start, valid_watchdog, valid_timer, valid_of};
 ghost use Rattle.laws.proofs.Valid.{none_counted};
 
 use crate::codes::{ends_early, watchdog_limit};
-use crate::duty::flag;
 use registers::fields::{monitor_only, standby, watchdog_code};
 use registers::kept::{config_refused, control_kept, dynamics_kept, mask_kept, options_kept};
 use rules::{Channel, Registers, StartValues, State, Timer};
@@ -46,49 +44,36 @@ fn valid_channel(in_standby: bool, channel: Channel) -> bool
 fn valid_channels(in_standby: bool, channels: [Channel; 6]) -> bool
     ensures { result ≡ every (valid_channel in_standby) channels }
 {
-    let mut all = true;
-    let mut i = 0;
-    while i < 6 {
-        all = all & valid_channel(in_standby, channels[i]);
-        i += 1;
-    }
-    all
+    channels
+        .iter()
+        .all(|channel| valid_channel(in_standby, *channel))
 }
 
 // No channel has a pulse counted.
 fn none_counted(channels: [Channel; 6]) -> bool
     ensures { result ≡ every none_counted channels }
 {
-    let mut none = true;
-    let mut i = 0;
-    while i < 6 {
-        none = none & (channels[i].pulses == 0);
-        i += 1;
-    }
-    none
+    channels.iter().all(|channel| channel.pulses == 0)
+}
+
+#[tactic(auto, unfolding(rules::specs::Valid::valid_pulses))]
+fn valid_count(early: bool, channel: Channel) -> bool
+    ensures { result ≡ valid_pulses early channel }
+{
+    channel.pulses <= u8::from(early & (0 < channel.spin))
 }
 
 fn valid_counts(early: bool, channels: [Channel; 6]) -> bool
     ensures { result ≡ every (valid_pulses early) channels }
 {
-    let mut all = true;
-    let mut i = 0;
-    while i < 6 {
-        let channel = channels[i];
-        all = all & (channel.pulses <= flag(early & (0 < channel.spin)));
-        i += 1;
-    }
-    all
+    channels.iter().all(|channel| valid_count(early, *channel))
 }
 
 // Pulses are counted for moments only, so one look at all six is mostly enough.
 fn valid_pulses(early: bool, channels: [Channel; 6]) -> bool
     ensures { result ≡ every (valid_pulses early) channels }
 {
-    if none_counted(channels) {
-        return true;
-    }
-    valid_counts(early, channels)
+    none_counted(channels) || valid_counts(early, channels)
 }
 
 #[tactic(auto, unfolding(rules::specs::Valid::valid_registers))]
@@ -129,6 +114,7 @@ fn valid_timer(code: u8, timer: Timer) -> bool
     valid_watchdog(code, timer) & (timer.wait <= 2048)
 }
 
+#[tactic(auto, unfolding(rules::specs::Valid::valid_of))]
 pub fn valid(state: State) -> bool
     ensures { result ≡ valid_of state }
 {
@@ -142,11 +128,4 @@ pub fn valid(state: State) -> bool
         & valid_timer(watchdog_code(registers.control), timer)
         & valid_channels(standby(registers.control), channels)
         & pulses
-}
-
-// Channels are counted from 1.
-pub fn is_channel(number: u32) -> bool
-    ensures { result ≡ is_channel number }
-{
-    (1 <= number) & (number <= 6)
 }

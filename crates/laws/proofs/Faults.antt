@@ -1,33 +1,22 @@
--- The fault byte: it is 0 just where no channel has its fault bit set, and it has a bit for each channel and no more.
-use Prim.Native.Nat.{ℕ, zero, suc, ◌+◌, ◌-◌, ◌*◌, ◌/◌, ◌%◌, ◌^◌, ◌<◌, ◌≤◌}
-use mathlib.Core.Path.{◌≡◌, refl, sym, ◌∙◌, ap, subst}
-use mathlib.Core.Bool.{Bool, true, false, not, ◌||◌}
-use mathlib.Core.List.{List, [], ◌∷◌}
+-- The fault byte has a bit for each channel and no more.
+use Prim.Native.Nat.{ℕ, zero, suc, ◌+◌, ◌*◌, ◌/◌, ◌%◌, ◌^◌, ◌<◌, ◌≤◌}
+use mathlib.Core.Path.{◌≡◌, refl, sym, ◌∙◌, ap}
+use mathlib.Core.Bool.{Bool, true, false}
+use mathlib.Core.List.{List, [], ◌∷◌, reverse}
 use native.Mathlib.Omega.{arith}
 use native.Mathlib.Nat.{two-pow-succ, div-div-eq-div-mul, zero-div}
 use lib.Dec.{eqb}
-use lib.ListN.{length, get_or, drop}
+use lib.ListN.{length, get_or}
 use lib.Pow.{pow_mono}
-use lib.Seq.{drop-cons}
-use borrow.Author.Tests.{eq-eqb, ne_eqb, eqb-true, eqb-false}
+use borrow.Author.Tests.{eq-eqb, ne_eqb}
+use Rattle.std.specs.List.{fold}
+use Rattle.std.proofs.lemmas.List.{reverse-append}
+use Rattle.std.proofs.lemmas.List.Sums.{fold_push}
 use Rattle.laws.proofs.Types.{Channel}
-use Rattle.rules.specs.Basics.{some, bit, flag}
+use Rattle.rules.specs.Basics.{bit, flag}
 use Rattle.rules.specs.State.{blank}
 use Rattle.rules.specs.Duty.{fault_byte}
 use Rattle.rules.proofs.Tests.{flag-le}
-
--- a number is 0 just where its lowest bit is clear and its other bits are 0
-lowest-bit : (on : Bool) (n : ℕ) → (on || not (eqb n 0)) ≡ not (eqb (flag on + 2 * n) 0)
-lowest-bit true n = let e : 1 + 2 * n ≡ 0 → ⊥ = λ z. omega arith in sym (ap not (ne_eqb (1 + 2 * n) 0 e))
-lowest-bit false n = ap not (go (eqb n 0) refl)
-  where
-    go : (t : Bool) → eqb n 0 ≡ t → t ≡ eqb (0 + 2 * n) 0
-    go true e = sym (eq-eqb (0 + 2 * n) 0 (omega (arith, eqb-true n 0 e)))
-    go false e = let ne : 0 + 2 * n ≡ 0 → ⊥ = λ z. eqb-false n 0 e (omega arith) in sym (ne_eqb (0 + 2 * n) 0 ne)
-
-pub some-fault : (chs : List Channel) → some (λ ch. ch.fault) chs ≡ not (eqb (fault_byte chs) 0)
-some-fault [] = refl
-some-fault (ch ∷ chs) = ap (λ b. ch.fault || b) (some-fault chs) ∙ lowest-bit ch.fault (fault_byte chs)
 
 pub fault-byte-lt : (chs : List Channel) → fault_byte chs < 2 ^ length chs
 fault-byte-lt [] = omega arith
@@ -37,16 +26,13 @@ fault-byte-lt (ch ∷ chs) = rw two-pow-succ (omega (arith, fault-byte-lt chs, f
 pub fault-byte-small : (chs : List Channel) → length chs ≤ 6 → fault_byte chs < 64
 fault-byte-small chs h = omega (arith, fault-byte-lt chs, pow_mono {j = 6} h)
 
--- one channel more in front: its bit is the lowest, and the others move up
-pub fault-byte-front : (chs : List Channel) (i : ℕ) → 0 < i → i ≤ length chs →
-    fault_byte (drop (i - 1) chs) ≡ fault_byte (drop i chs) * 2 + flag (get_or chs (i - 1) blank).fault
-fault-byte-front chs i h l =
-    subst (λ (k : ℕ). fault_byte (drop (i - 1) chs) ≡ fault_byte (drop k chs) * 2 + flag (get_or chs (i - 1) blank).fault)
-    (let e : suc (i - 1) ≡ i = omega arith in e)
-    (ap fault_byte (drop-cons chs (i - 1) blank (omega arith)) ∙ twice (fault_byte (drop (suc (i - 1)) chs)) (flag (get_or chs (i - 1) blank).fault))
-  where
-    twice : (x y : ℕ) → y + 2 * x ≡ x * 2 + y
-    twice x y = omega arith
+-- the channels from the last one on, each with its bit below those so far: of six none is lost
+pub fault-byte-folded : (chs : List Channel) → length chs ≤ 6 → fold (λ byte (ch : Channel). byte * 2 % 256 + flag ch.fault) 0 (reverse chs) ≡ fault_byte chs
+fault-byte-folded [] h = refl
+fault-byte-folded (ch ∷ chs) h =
+    ap (fold (λ byte (x : Channel). byte * 2 % 256 + flag x.fault) 0) (reverse-append (ch ∷ []) chs)
+    ∙ fold_push (λ byte (x : Channel). byte * 2 % 256 + flag x.fault) 0 (reverse chs) ch
+    ∙ rw (fault-byte-folded chs (omega arith)) (omega (arith, fault-byte-small chs (omega arith)))
 
 -- the lowest bit of a number, and the bits above it
 bit-lowest : (on : Bool) (n : ℕ) → bit 0 (flag on + 2 * n) ≡ on
