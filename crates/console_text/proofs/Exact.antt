@@ -2,7 +2,7 @@
 use Prim.Native.Nat.{ℕ, zero, suc, ◌+◌, ◌-◌, ◌*◌, ◌/◌, ◌^◌, ◌≤◌, ◌<◌}
 use mathlib.Core.Path.{◌≡◌, sym, ap, ◌∙◌}
 use mathlib.Core.Bool.{Bool, true, false, not, ◌&&◌, ◌||◌}
-use mathlib.Core.List.{◌∷◌}
+use mathlib.Core.List.{◌++◌}
 use native.Mathlib.Nat.{two-pow-succ, mul_comm, mul_assoc, mul_right_comm, zero-mul, mul-pos, mul-lt-mul_of_pos_right, mul-le-mul_right}
 use native.Mathlib.Decide.{dec_lt}
 use native.Mathlib.Omega.{arith}
@@ -17,6 +17,8 @@ use borrow.Author.Tests.{lt-ltb, le-ltb, le-leb, lt-leb, eq-eqb, ne_eqb}
 use Rattle.std.specs.Prelude.{if◌then◌else◌}
 use Rattle.rules.specs.Reading.{over512}
 use Rattle.laws.proofs.Exact.{over-512-exact}
+use Rattle.rules.proofs.Tests.{by-test}
+use Rattle.console_text.specs.Signed.{sign_of}
 use Rattle.console_text.specs.Fraction.{parts_after, parts_of, three_decimals, eighths_text, signed_eighths}
 
 -- ---- values of one denominator are in the order of their numerators
@@ -136,11 +138,8 @@ unfolding eighths_text signed_eighths
 eighths-exact x (pos n) v h = rw (not-below-zero x n v, eighth-parts x n v h)
 eighths-exact x (negsuc n) v h = rw (below-zero x n v, eighth-parts (neg x) (suc n) (opposite x true (suc n) 8 v) h)
 
--- as the machine tests it
-pub below-text : (x : Float) → lt x (fin false 0 (pos 0)) ≡ true → 45 ∷ three_decimals (parts_of (neg x) / 64) ≡ eighths_text x
+-- a sign where the f64 is below 0, and then its eighths, however they were made
+pub sign-put : (x y : Float) → y ≡ (if lt x (fin false 0 (pos 0)) then neg x else x) →
+    sign_of (lt x (fin false 0 (pos 0))) ++ three_decimals (parts_of y / 64) ≡ eighths_text x
 unfolding eighths_text
-below-text x t = rw t
-
-pub above-text : (x : Float) → lt x (fin false 0 (pos 0)) ≡ false → three_decimals (parts_of x / 64) ≡ eighths_text x
-unfolding eighths_text
-above-text x f = rw f
+sign-put x y e = by-test (lt x (fin false 0 (pos 0))) (λ t. let n = rw t at e in rw (t, n)) (λ f. let n = rw f at e in rw (f, n))

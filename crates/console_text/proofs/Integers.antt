@@ -1,49 +1,31 @@
 -- Signed numbers: what the machine reads back from 32 bits, and the way there and back between a number and its bits.
-use Prim.Native.Nat.{ℕ, zero, suc, ◌-◌, ◌%◌, ◌^◌, ◌<◌, ◌≤◌}
-use mathlib.Core.Path.{◌≡◌, refl, sym, ap, ◌∙◌, subst}
-use mathlib.Core.Bool.{true, false}
-use mathlib.Core.List.{◌∷◌}
+use Prim.Native.Nat.{ℕ, suc, ◌-◌, ◌%◌, ◌<◌}
+use mathlib.Core.Path.{◌≡◌, refl, ap, ◌∙◌}
+use mathlib.Core.List.{List, ◌∷◌, ◌++◌}
 use native.Mathlib.Decide.{dec_lt}
 use native.Mathlib.Omega.{arith}
-use lib.IntN.{ℤ, pos, negsuc, ◌-ℤ◌, nat_abs}
-use lib.Dec.{T}
+use lib.IntN.{ℤ, pos, negsuc, nat_abs}
+use lib.Dec.{ltb}
 use lib.Signed.{mag, lt_z}
-use mir.Syntax.{Width, w16, w32}
-use mir.Val.{hbits, SFits, to_z, of_z}
-use mir.ValLaws.{to_z_pos, to_z-of_z}
+use mir.Syntax.{w16, w32}
+use mir.Val.{SFits, to_z, of_z}
+use mir.ValLaws.{to_z-of_z}
 use borrow.Author.Tests.{lt-ltb, le-ltb}
+use Rattle.rules.proofs.Tests.{by-test}
 use Rattle.console_text.specs.Decimal.{decimal_of}
 use Rattle.console_text.specs.Fraction.{three_decimals, signed_eighths}
-use Rattle.console_text.specs.Signed.{bits_of, integer_of, short_of, signed_decimal}
-
--- ---- a number taken from -1
-minus-one-less : (n : ℕ) → negsuc 0 -ℤ pos n ≡ negsuc n
-minus-one-less zero = refl
-minus-one-less (suc n) = ap negsuc (omega arith)
+use Rattle.console_text.specs.Signed.{bits_of, integer_of, short_of, sign_of, signed_decimal}
 
 -- ---- from bits
-module _ (w : Width) (k : ℕ) (h : k < 2 ^ hbits w) where
-  pub below-fits : SFits w (negsuc 0 -ℤ to_z w k)
-  below-fits = rw (to_z_pos w k h, minus-one-less k) (record { sfits = h })
-
-  below-read : to_z w (of_z w (negsuc 0 -ℤ to_z w k)) ≡ negsuc k
-  below-read = to_z-of_z w (negsuc 0 -ℤ to_z w k) below-fits ∙ ap (λ (z : ℤ). negsuc 0 -ℤ z) (to_z_pos w k h) ∙ minus-one-less k
-
-pub plain-bits : (n : ℕ) → n < 2_147_483_648 → to_z w32 n ≡ integer_of n
+pub integer-bits : (n : ℕ) → to_z w32 n ≡ integer_of n
 unfolding integer_of
-plain-bits n h = to_z_pos w32 n h ∙ rw (lt-ltb n 2_147_483_648 h)
+integer-bits n =
+    by-test (ltb n 2_147_483_648) (λ t. rw t) (λ f. rw f (ap negsuc (omega arith)))
 
-pub below-bits : (n : ℕ) → 2_147_483_648 ≤ n → to_z w32 (of_z w32 (negsuc 0 -ℤ to_z w32 (4_294_967_295 - n))) ≡ integer_of n
-unfolding integer_of
-below-bits n h = below-read w32 (4_294_967_295 - n) (omega arith) ∙ rw (le-ltb n 2_147_483_648 h)
-
-pub plain-short : (n : ℕ) → n % 65_536 < 32_768 → to_z w16 (n % 65_536) ≡ short_of n
+pub short-bits : (n : ℕ) → to_z w16 (n % 65_536) ≡ short_of n
 unfolding short_of
-plain-short n h = to_z_pos w16 (n % 65_536) h ∙ rw (lt-ltb (n % 65_536) 32_768 h)
-
-pub below-short : (n : ℕ) → 32_768 ≤ n % 65_536 → to_z w16 (of_z w16 (negsuc 0 -ℤ to_z w16 (65_535 - n % 65_536))) ≡ short_of n
-unfolding short_of
-below-short n h = below-read w16 (65_535 - n % 65_536) (omega arith) ∙ rw (le-ltb (n % 65_536) 32_768 h)
+short-bits n =
+    by-test (ltb (n % 65_536) 32_768) (λ t. rw t) (λ f. rw f (ap negsuc (omega arith)))
 
 -- a number of 32 bits is the one that its bits are
 pub bits_back : (z : ℤ) → mag z < 2_147_483_648 → integer_of (bits_of z) ≡ z
@@ -64,38 +46,19 @@ short_back (negsuc n) h =
     let back : 65_535 - (65_535 - n) ≡ n = omega arith in
     rw (low, le-ltb (65_535 - n) 32_768 (omega arith), back)
 
--- ---- how far from 0, of what the machine reads back
-pub distance-plain : (z : ℤ) → SFits w32 z → nat_abs (to_z w32 (of_z w32 z)) ≡ nat_abs z
-distance-plain z f = ap nat_abs (to_z-of_z w32 z f)
-
--- ---- as text: what is put of a number below 0, and of any other
-signed_by : {A : Type 0} (below : ℕ → A) (f : ℤ → A) → ((n : ℕ) → below (suc n) ≡ f (negsuc n)) → (z : ℤ) → SFits w32 z →
-    lt_z (to_z w32 (of_z w32 z)) (pos 0) ≡ true → below (nat_abs z) ≡ f z
-signed_by below f e z fits t = go z (rw (to_z-of_z w32 z fits) at t)
-  where
-    go : (y : ℤ) → lt_z y (pos 0) ≡ true → below (nat_abs y) ≡ f y
-    go (pos n) u = let h = le-ltb n 0 (omega arith) in absurd (subst T (sym u ∙ h) tt)
-    go (negsuc n) u = e n
-
-plain_by : {A : Type 0} (whole : ℕ → A) (f : ℤ → A) → ((n : ℕ) → whole n ≡ f (pos n)) → (z : ℤ) → SFits w32 z →
-    lt_z (to_z w32 (of_z w32 z)) (pos 0) ≡ false → whole (nat_abs z) ≡ f z
-plain_by whole f e z fits t = go z (rw (to_z-of_z w32 z fits) at t)
-  where
-    go : (y : ℤ) → lt_z y (pos 0) ≡ false → whole (nat_abs y) ≡ f y
-    go (pos n) u = e n
-    go (negsuc n) u = absurd (subst T u tt)
+-- ---- as text: a sign where the number is below 0, and then how far it is from 0
+signed_by : (text : ℕ → List ℕ) (f : ℤ → List ℕ) → ((n : ℕ) → text n ≡ f (pos n)) → ((n : ℕ) → 45 ∷ text (suc n) ≡ f (negsuc n)) → (z : ℤ) →
+    sign_of (lt_z z (pos 0)) ++ text (nat_abs z) ≡ f z
+signed_by text f plain below (pos n) = rw (le-ltb n 0 (omega arith)) (plain n)
+signed_by text f plain below (negsuc n) = below n
 
 module _ (z : ℤ) (f : SFits w32 z) where
-  pub sign-put : lt_z (to_z w32 (of_z w32 z)) (pos 0) ≡ true → 45 ∷ decimal_of (nat_abs z) ≡ signed_decimal z
-  sign-put = signed_by (λ n. 45 ∷ decimal_of n) signed_decimal (λ n. refl) z f
+  pub sign-put : sign_of (lt_z (to_z w32 (of_z w32 z)) (pos 0)) ++ decimal_of (nat_abs (to_z w32 (of_z w32 z))) ≡ signed_decimal z
+  sign-put = rw (to_z-of_z w32 z f) (signed_by decimal_of signed_decimal (λ n. refl) (λ n. refl) z)
 
-  pub sign-put-eighths : lt_z (to_z w32 (of_z w32 z)) (pos 0) ≡ true → 45 ∷ three_decimals (nat_abs z) ≡ signed_eighths z
+  pub sign-put-eighths : sign_of (lt_z (to_z w32 (of_z w32 z)) (pos 0)) ++ three_decimals (nat_abs (to_z w32 (of_z w32 z))) ≡ signed_eighths z
   unfolding signed_eighths
-  sign-put-eighths = signed_by (λ n. 45 ∷ three_decimals n) signed_eighths (λ n. refl) z f
-
-  pub no-sign-eighths : lt_z (to_z w32 (of_z w32 z)) (pos 0) ≡ false → three_decimals (nat_abs z) ≡ signed_eighths z
-  unfolding signed_eighths
-  no-sign-eighths = plain_by three_decimals signed_eighths (λ n. refl) z f
+  sign-put-eighths = rw (to_z-of_z w32 z f) (signed_by three_decimals signed_eighths (λ n. refl) (λ n. refl) z)
 
 -- ---- what the machine reads back of a number that was made of bits
 integer-fits : (n : ℕ) → SFits w32 (integer_of n)

@@ -9,11 +9,11 @@ use native.Mathlib.Omega.{arith}
 use lib.ListN.{length, length-append}
 use lib.Dec.{eqb, ltb}
 use borrow.Author.Tests.{lt-ltb, ltb-true, le-leb, eqb-true, ne_eqb}
-use Rattle.console_text.specs.declared.number.Number.TheVariants.{Value}
+use Rattle.std.specs.Prelude.{Ok}
 use Rattle.console_text.specs.Number.{digit_of, are_digits, spelled_after, limited, number_after, in_base, prefixed, number_of}
 use Rattle.console_text.specs.Decimal.{digits_within, digits_of, decimal_of}
 use Rattle.rules.proofs.Tests.{by-test, and_left, and_right}
-use Rattle.console_text.proofs.Spelling.{digit-more}
+use Rattle.console_text.proofs.Spelling.{some-owed, digit-more}
 
 -- ---- digits of any base
 module _ (base : ℕ) where
@@ -103,21 +103,21 @@ exactly zero least n h g = omega arith
 exactly (suc room) zero n h g = let e : n ≡ 0 = omega arith in rw e
 exactly (suc room) (suc least) n h g =
     let e : suc least - 1 ≡ least = omega arith in
-    ap length (digit-more room (suc least) n (λ z q. omega arith))
+    ap length (digit-more room (suc least) n (some-owed n (suc least) (omega arith)))
     ∙ rw (e, length-append, exactly room least (n / 10) (omega arith) (omega (arith, pow-suc 10 least))) (add-one least)
 
 -- ---- the round trip
-read_back : (room least n : ℕ) → 0 < least → n < 2 ^ 32 → n < 10 ^ suc room → number_of (digits_within (suc room) least n) ≡ Value n
+read_back : (room least n : ℕ) → 0 < least → n < 2 ^ 32 → n < 10 ^ suc room → number_of (digits_within (suc room) least n) ≡ Ok n
 unfolding number_of number_after limited Spells
 read_back room least n some small fits =
     let digits = digits_within (suc room) least n in
     let begins : in_base 10 digits ≡ number_after 10 0 digits =
-    rw (digit-more room least n (λ z q. omega arith)) (some-digit 10 (digits_within room (least - 1) (n / 10)) (48 + n % 10)) in
+    rw (digit-more room least n (some-owed n least some)) (some-digit 10 (digits_within room (least - 1) (n / 10)) (48 + n % 10)) in
     let value : spelled_after 10 0 digits ≡ n = spells 0 (suc room) least n fits ∙ rw zero-mul (omega arith) in
     rw (no-prefix digits (all_digits (suc room) least n), begins, all_digits (suc room) least n, value, lt-ltb n (2 ^ 32) small)
 
 -- a number of 32 bits, put with at least one digit, is read as that number
-pub round_trip : (least n : ℕ) → 0 < least → n < 2 ^ 32 → number_of (digits_of least n) ≡ Value n
+pub round_trip : (least n : ℕ) → 0 < least → n < 2 ^ 32 → number_of (digits_of least n) ≡ Ok n
 unfolding digits_of
 round_trip least n some small = read_back 9 least n some small (omega arith)
 

@@ -4,19 +4,20 @@ use mathlib.Core.Path.{◌≡◌, refl, sym, ap, ◌∙◌}
 use mathlib.Core.Bool.{Bool, true, false, beq}
 use mathlib.Core.List.{List, [], ◌∷◌}
 use native.Mathlib.Omega.{arith}
-use native.Mathlib.Numerals.{add-one}
 use lib.ListN.{length, get_or, take, drop, length-drop, drop_of_length-le}
 use lib.Seq.{drop-cons, drop-drop}
-use lib.Dec.{eqb}
-use borrow.Author.Tests.{eq-eqb, ne_eqb}
+use lib.Dec.{eqb, ltb}
+use borrow.Author.Tests.{lt-ltb, le-ltb}
+use native.Mathlib.Decide.{dec_lt}
+use Rattle.std.specs.Bool.{then_some}
 use Rattle.rules.proofs.Tests.{by-test}
 use Rattle.console_text.specs.Words.{is_blank, words_of, run_of, lengthened, counted, Finds}
 use Rattle.console_text.specs.declared.line.Word.{Word}
-use Rattle.console_text.specs.declared.line.Word.TheVariants.{At, Nothing}
+use Rattle.std.specs.Prelude.{Option, Some, None}
 
 pub run_more : (blank : Bool) (byte : ℕ) (line : List ℕ) → beq (is_blank byte) blank ≡ true → run_of blank (byte ∷ line) ≡ suc (run_of blank line)
 unfolding run_of
-run_more blank byte line e = rw e
+run_more blank byte line e = rw e (omega arith)
 
 pub run_ends : (blank : Bool) (byte : ℕ) (line : List ℕ) → beq (is_blank byte) blank ≡ false → run_of blank (byte ∷ line) ≡ 0
 unfolding run_of
@@ -84,35 +85,10 @@ first_word byte (next ∷ line) e =
     rw (run_more false byte (next ∷ line) (like _ e))
     (word-goes-on byte next line e f ∙ ap (lengthened byte) (first_word next line f)))
 
--- the run of a line from an index on
-module _ (blank : Bool) (line : List ℕ) (i : ℕ) where
-  pub run-goes-on : i < length line → beq (is_blank (get_or line i 0)) blank ≡ true →
-      i + run_of blank (drop i line) ≡ i + 1 + run_of blank (drop (i + 1) line)
-  run-goes-on h e = rw (add-one, drop-cons line i 0 h, run_more blank _ _ e) (omega arith)
-
-  pub run-breaks-off : i < length line → beq (is_blank (get_or line i 0)) blank ≡ false → i + run_of blank (drop i line) ≡ i
-  run-breaks-off h e = rw (drop-cons line i 0 h, run_ends blank _ _ e) (omega arith)
-
-  pub run-at-end : length line ≤ i → i + run_of blank (drop i line) ≡ i
-  run-at-end h = rw (drop_of_length-le line h, run_none blank) (omega arith)
-
 -- ---- the line's end
-module _ (line : List ℕ) where
-  pub counted_none : length line ≡ 0 → counted line ≡ 0
-  unfolding counted
-  counted_none e = by-test (eqb (get_or line (length line - 1) 0) 13) (λ t. rw t (omega arith)) (λ f. rw f e)
-
-  pub counted-less : get_or line (length line - 1) 0 ≡ 13 → counted line ≡ length line - 1
-  unfolding counted
-  counted-less e = rw (eq-eqb _ 13 e)
-
-  pub counted-all : (get_or line (length line - 1) 0 ≡ 13 → ⊥) → counted line ≡ length line
-  unfolding counted
-  counted-all e = rw (ne_eqb _ 13 e)
-
-  pub counted-within : counted line ≤ length line
-  unfolding counted
-  counted-within = by-test (eqb (get_or line (length line - 1) 0) 13) (λ t. rw t (omega arith)) (λ f. rw f (omega arith))
+pub counted-within : (line : List ℕ) → counted line ≤ length line
+unfolding counted
+counted-within line = by-test (eqb (get_or line (length line - 1) 0) 13) (λ t. rw t (omega arith)) (λ f. rw f (omega arith))
 
 -- ---- the first word from an index on
 module _ (line : List ℕ) (from begin : ℕ) (skipped : begin ≡ from + run_of true (drop from line)) where
@@ -122,7 +98,7 @@ module _ (line : List ℕ) (from begin : ℕ) (skipped : begin ≡ from + run_of
   same-words : words_of (drop from line) ≡ words_of (drop begin line)
   same-words = blanks-skipped (drop from line) ∙ ap words_of from-begin
 
-  pub finds-nothing : length line ≤ begin → Finds line from Nothing
+  pub finds-nothing : length line ≤ begin → Finds line from None
   unfolding words_of
   finds-nothing h = record { words = same-words ∙ rw (drop_of_length-le line h); lies = tt }
 
@@ -137,7 +113,7 @@ module _ (line : List ℕ) (from begin : ℕ) (skipped : begin ≡ from + run_of
     some_byte : 0 < run_of false (drop begin line)
     some_byte = rw (drop-cons line begin 0 within, run_more false _ (drop (suc begin) line) (like _ not-blank)) (omega arith)
 
-    pub finds-word : (end : ℕ) → end ≡ begin + run_of false (drop begin line) → Finds line from (At begin end)
+    pub finds-word : (end : ℕ) → end ≡ begin + run_of false (drop begin line) → Finds line from (Some (record { begin = begin; end = end }))
     finds-word end e =
         let run : end - begin ≡ run_of false (drop begin line) = omega arith in
         record {
@@ -145,11 +121,24 @@ module _ (line : List ℕ) (from begin : ℕ) (skipped : begin ≡ from + run_of
           lies = (omega arith, omega (arith, some_byte), omega (arith, run-within false (drop begin line), length-drop begin line));
         }
 
+  -- nothing goes on after the line's end
+  pub finds-next : (end : ℕ) → end ≡ begin + run_of false (drop begin line) →
+      Finds line from (then_some (ltb begin end) (record { begin = begin; end = end }))
+  finds-next end e =
+      elim (dec_lt begin (length line)) [
+        | yes l ↦
+            let found = finds-word l end e in
+            rw (lt-ltb begin end found.lies.1) found
+        | no g ↦
+            let none = rw (drop_of_length-le line {i = begin} (omega arith), run_none false) at e in
+            rw (le-ltb begin end (omega arith)) (finds-nothing (omega arith))
+      ]
+
 -- ---- a word that was found
-module _ {line : List ℕ} {from : ℕ} {word : Word} (finds : Finds line from word) where
-  pub found_none : word ≡ Nothing → words_of (drop from line) ≡ []
+module _ {line : List ℕ} {from : ℕ} {word : Option Word} (finds : Finds line from word) where
+  pub found_none : word ≡ None → words_of (drop from line) ≡ []
   found_none e = rw e at finds.words
 
-  module _ {begin end : ℕ} (e : word ≡ At begin end) where
-    pub found_first : words_of (drop from line) ≡ take (end - begin) (drop begin line) ∷ words_of (drop end line)
-    found_first = rw e at finds.words
+  pub found_first : {at : Word} → word ≡ Some at →
+      words_of (drop from line) ≡ take (at.end - at.begin) (drop at.begin line) ∷ words_of (drop at.end line)
+  found_first e = rw e at finds.words

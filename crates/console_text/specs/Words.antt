@@ -1,10 +1,10 @@
 -- The words of a line.
-use Rattle.std.specs.Prelude.{ℕ, suc, ◌-◌, ◌≤◌, ◌<◌, ◌≡◌, Bool, true, ◌||◌, List, [], ◌∷◌, length, get_or, take, drop, eqb, ltb, if◌then◌else◌}
+use Rattle.std.specs.Prelude.{ℕ, ◌-◌, ◌≤◌, ◌<◌, ◌≡◌, Bool, true, ◌||◌, List, [], ◌∷◌, length, get_or, take, drop, eqb, ltb, if◌then◌else◌, Option, Some, None}
 use Rattle.std.specs.Bool.{beq}
+use Rattle.std.specs.List.{prefix_len}
 use Rattle.console_text.specs.declared.gathered.Ended.{Ended}
 use Rattle.console_text.specs.declared.gathered.Ended.TheVariants.{Skipped, TooLong, Whole}
 use Rattle.console_text.specs.declared.line.Word.{Word}
-use Rattle.console_text.specs.declared.line.Word.TheVariants.{At, Nothing}
 
 -- "Words are separated by spaces or tabs"
 abbrev pub is_blank : ℕ → Bool
@@ -30,21 +30,20 @@ words_of (byte ∷ line) =
 
 -- how many bytes a line begins with that are blank; or that are not
 unfoldable pub run_of : Bool → List ℕ → ℕ
-run_of blank [] = 0
-run_of blank (byte ∷ line) = if beq (is_blank byte) blank then suc (run_of blank line) else 0
+run_of blank line = prefix_len (λ byte. beq (is_blank byte) blank) line
 
 -- the words that begin with the one that was found
-abbrev pub words_from : List ℕ → Word → List (List ℕ)
-words_from line Nothing = []
-words_from line (At begin end) = take (end - begin) (drop begin line) ∷ words_of (drop end line)
+abbrev pub words_from : List ℕ → Option Word → List (List ℕ)
+words_from line None = []
+words_from line (Some word) = take (word.end - word.begin) (drop word.begin line) ∷ words_of (drop word.end line)
 
 -- a word that was found lies in the line, from an index on, and has a byte
-abbrev pub Lies : List ℕ → ℕ → Word → Type 0
-Lies line from Nothing = Unit {0}
-Lies line from (At begin end) = (from ≤ begin) × (begin < end) × (end ≤ length line)
+abbrev pub Lies : List ℕ → ℕ → Option Word → Type 0
+Lies line from None = Unit {0}
+Lies line from (Some word) = (from ≤ word.begin) × (word.begin < word.end) × (word.end ≤ length line)
 
 -- the first word of a line from an index on
-pub record Finds (line : List ℕ) (from : ℕ) (word : Word) : Type 0 where
+pub record Finds (line : List ℕ) (from : ℕ) (word : Option Word) : Type 0 where
   pub words : words_of (drop from line) ≡ words_from line word
   pub lies : Lies line from word
 

@@ -1,50 +1,39 @@
 // A number as decimal digits.
-ghost use Rattle.std.specs.Prelude.{◌≡◌, ◌-◌, ◌≤◌, length, drop};
-ghost use Rattle.lent.specs.Put.{Put};
+ghost use Rattle.std.specs.Prelude.{◌≡◌, ◌≤◌, length, drop};
+ghost use Rattle.lent.specs.Put.{Puts};
 ghost use Rattle.console_text.specs.Decimal.{digits_of, decimal_of};
 
-use lent::put;
-
-fn one_less(n: u32) -> u32
-    ensures { result ≡ n - 1 }
-{
-    if 0 < n { n - 1 } else { 0 }
-}
+use lent::Page;
 
 // Puts a number's digits at the end of ten bytes, and gives the index of the first.
-fn spell(n: u32, least: u32, digits: &mut [u8]) -> usize
-    requires { length digits.old ≡ 10 }
+fn spell(n: u32, least: u32, digits: &mut [u8; 10]) -> usize
     ensures { (result ≤ 10) × (drop result digits.new ≡ digits_of least n) }
 {
-    let mut from: usize = 10;
     let mut rest = n;
     let mut owed = least;
-    while 0 < from {
-        if rest == 0 {
-            if owed == 0 {
-                return from;
-            }
+    for place in (0..10).rev() {
+        if (rest == 0) & (owed == 0) {
+            return place + 1;
         }
-        from -= 1;
-        digits[from] = 48 + (rest % 10) as u8;
+        digits[place] = b'0' + (rest % 10) as u8;
         rest /= 10;
-        owed = one_less(owed);
+        owed = owed.saturating_sub(1);
     }
-    from
+    0
 }
 
-// Puts a number's digits into a buffer, with zeros in front up to `least` digits, ten at most.
-pub fn put_digits(n: u32, least: u32, out: &mut [u8], at: usize) -> usize
-    ensures { Put (digits_of least n) at out.old out.new result }
+// Puts a number's digits, with zeros in front up to `least` digits, ten at most.
+pub fn put_digits(page: &mut Page, n: u32, least: u32)
+    ensures { Puts (digits_of least n) page.old page.new }
 {
-    let mut digits = [0u8; 10];
+    let mut digits = [0; 10];
     let from = spell(n, least, &mut digits);
-    put(&digits[from..], out, at)
+    page.put(&digits[from..]);
 }
 
 // Puts a number with as few digits as it needs.
-pub fn put_decimal(n: u32, out: &mut [u8], at: usize) -> usize
-    ensures { Put (decimal_of n) at out.old out.new result }
+pub fn put_decimal(page: &mut Page, n: u32)
+    ensures { Puts (decimal_of n) page.old page.new }
 {
-    put_digits(n, 1, out, at)
+    put_digits(page, n, 1);
 }

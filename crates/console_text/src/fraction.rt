@@ -1,69 +1,65 @@
 // An f64 that counts 512ths, with nine decimals, which is what a 512th needs: 1/512 is 0.001953125. One that counts eighths, with
 // three: 1/8 is 0.125.
-ghost use Rattle.std.specs.Prelude.{◌≡◌, ◌<◌, ◌^◌};
-ghost use Rattle.lent.specs.Put.{Put};
-ghost use Rattle.rules.specs.Reading.{over512};
+ghost use Rattle.std.specs.Prelude.{◌≡◌, ◌∷◌, ◌++◌};
+ghost use Rattle.lent.specs.Put.{Puts};
+ghost use Rattle.console_text.specs.Decimal.{digits_of, decimal_of};
 ghost use Rattle.console_text.specs.Fraction.{parts_of, nine_decimals, three_decimals, eighths_text};
 
-use crate::decimal::put_digits;
-use lent::put;
-
-fn over_512(n: u64) -> f64
-    requires { n < 2 ^ 53 }
-    ensures { result ≡ over512 n }
-{
-    n as f64 / 512.0
-}
-
-fn power(bit: u32) -> u64
-    requires { bit < 32 }
-    ensures { result ≡ 2 ^ bit }
-{
-    1u64 << bit
-}
+use crate::decimal::{put_decimal, put_digits};
+use crate::signed::put_sign;
+use lent::Page;
 
 // How many 512ths an f64 has, found bit by bit: a cast would ask that the f64 is known to be a whole number.
 pub fn parts(x: f64) -> u32
     ensures { result ≡ parts_of x }
 {
-    let mut n: u64 = 0;
-    let mut bit: u32 = 32;
-    while 0 < bit {
-        bit -= 1;
-        let more = n + power(bit);
-        if over_512(more) <= x {
+    let mut n = 0;
+    for bit in (0..32u32).rev() {
+        let more = n + 2u32.pow(bit);
+        if f64::from(more) / 512.0 <= x {
             n = more;
         }
     }
-    n as u32
+    n
 }
 
-// Puts an f64 into a buffer in decimal, with nine decimals.
-pub fn put_512ths(x: f64, out: &mut [u8], at: usize) -> usize
-    ensures { Put (nine_decimals (parts_of x)) at out.old out.new result }
+// Puts a whole number, a point, and so many decimals.
+fn put_point(page: &mut Page, whole: u32, decimals: u32, places: u32)
+    ensures { Puts (decimal_of whole ++ 46 ∷ digits_of places decimals) page.old page.new }
 {
-    let n = parts(x);
-    let point = put_digits(n / 512, 1, out, at);
-    let decimals = put(b".", out, point);
-    put_digits(n % 512 * 1953125, 9, out, decimals)
+    put_decimal(page, whole);
+    page.put(b".");
+    put_digits(page, decimals, places);
 }
 
-// Puts a number of eighths into a buffer in decimal, with three decimals.
-pub fn put_eighths(n: u32, out: &mut [u8], at: usize) -> usize
-    ensures { Put (three_decimals n) at out.old out.new result }
+#[tactic(auto, unfolding(crate::specs::Fraction::nine_decimals))]
+// Puts a number of 512ths in decimal, with nine decimals.
+pub fn put_nine_decimals(page: &mut Page, n: u32)
+    ensures { Puts (nine_decimals n) page.old page.new }
 {
-    let point = put_digits(n / 8, 1, out, at);
-    let decimals = put(b".", out, point);
-    put_digits(n % 8 * 125, 3, out, decimals)
+    put_point(page, n / 512, n % 512 * 1953125, 9);
+}
+
+// The same of an f64.
+pub fn put_512ths(page: &mut Page, x: f64)
+    ensures { Puts (nine_decimals (parts_of x)) page.old page.new }
+{
+    put_nine_decimals(page, parts(x));
+}
+
+#[tactic(auto, unfolding(crate::specs::Fraction::three_decimals))]
+// Puts a number of eighths in decimal, with three decimals.
+pub fn put_eighths(page: &mut Page, n: u32)
+    ensures { Puts (three_decimals n) page.old page.new }
+{
+    put_point(page, n / 8, n % 8 * 125, 3);
 }
 
 // Puts an f64 that counts eighths, with `-` before it where it is below 0.
-pub fn put_8ths(x: f64, out: &mut [u8], at: usize) -> usize
-    ensures { Put (eighths_text x) at out.old out.new result }
+pub fn put_8ths(page: &mut Page, x: f64)
+    ensures { Puts (eighths_text x) page.old page.new }
 {
-    if x < 0.0 {
-        let sign = put(b"-", out, at);
-        return put_eighths(parts(-x) / 64, out, sign);
-    }
-    put_eighths(parts(x) / 64, out, at)
+    let below = x < 0.0;
+    put_sign(page, below);
+    put_eighths(page, parts(if below { -x } else { x }) / 64);
 }

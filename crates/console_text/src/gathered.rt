@@ -1,8 +1,8 @@
 // A line, gathered from the input piece by piece, and what it is once it has ended.
-ghost use Rattle.std.specs.Prelude.{◌≡◌, ◌-◌, ◌≤◌, max, length};
+ghost use Rattle.std.specs.Prelude.{◌≡◌, ◌≤◌, max, length};
 ghost use Rattle.console_text.specs.Words.{words_of, skipped_of, ended_of};
 
-use crate::line::{Word, end, is_blank, next_word};
+use crate::line::{end, is_blank, next_word};
 use lent::front;
 
 // The most bytes of a line that is a call.
@@ -10,86 +10,68 @@ const LONGEST: usize = 4096;
 
 // A line as far as it was read: the bytes kept, which are those from its first word on, as many as there is room for, and
 // how many it has in all, which is counted up to two more than a call can have.
-#[derive(Clone, Copy)]
+#[derive(Clone, Copy, Default)]
 pub struct Gathered {
     pub kept: usize,
     pub total: usize,
 }
 
-// What a line is that has ended: one that answers nothing, one longer than a call can be, or so many bytes.
-#[derive(Clone, Copy)]
+// What a line is that has ended: one that answers nothing, one longer than a call can be, or so many bytes. All three are
+// answers, so none is an `Err` or a `None`.
+#[derive(Clone, Copy, Debug, PartialEq, Eq)]
 pub enum Ended {
     Skipped,
     TooLong,
     Whole(usize),
 }
 
-fn one_more(total: usize) -> usize {
-    if total < LONGEST + 2 {
-        return total + 1;
-    }
-    total
-}
-
-// Keeps a byte of a line, and gives how many are kept then. Blanks before the first word are counted and not kept, so that a line of
-// them stays empty and a comment shows its first byte, however long it is.
-fn keep(byte: u8, line: &mut [u8], kept: usize) -> usize
-    ensures { result ≤ max kept (length line.old) }
-{
-    if (kept == 0) & is_blank(byte) {
-        return kept;
-    }
-    if kept < line.len() {
-        line[kept] = byte;
-        return kept + 1;
-    }
-    kept
-}
-
-// Adds bytes to a line.
-pub fn gather(bytes: &[u8], line: &mut [u8], gathered: Gathered) -> Gathered
-    ensures { result.kept ≤ max gathered.kept (length line.old) }
-{
-    let mut kept = gathered.kept;
-    let mut total = gathered.total;
-    let mut i = 0;
-    while i < bytes.len() {
-        kept = keep(bytes[i], line, kept);
-        total = one_more(total);
-        i += 1;
-    }
-    Gathered { kept, total }
-}
-
 // Whether a line answers nothing: it has no word, or its first begins with `#`.
 fn is_skipped(line: &[u8]) -> bool
     ensures { result ≡ skipped_of (words_of line.now) }
 {
-    let first = next_word(line, 0);
-    match first {
-        Word::Nothing => true,
-        Word::At(begin, _) => line[begin] == b'#',
+    match next_word(line, 0) {
+        Some(word) => line[word.begin] == b'#',
+        None => true,
     }
 }
 
-// How much a is above b, or 0.
-fn above(a: usize, b: usize) -> usize
-    ensures { result ≡ a - b }
-{
-    if b < a { a - b } else { 0 }
-}
+impl Gathered {
+    // Adds a byte to a line. Blanks before the first word are counted and not kept, so that a line of them stays empty and a
+    // comment shows its first byte, however long it is.
+    fn keep(&mut self, byte: u8, line: &mut [u8])
+        ensures { self.new.kept ≤ max self.old.kept (length line.old) }
+    {
+        self.total = self.total.saturating_add(1).min(LONGEST + 2);
+        if (self.kept == 0) & is_blank(byte) {
+            return;
+        }
+        if self.kept < line.len() {
+            line[self.kept] = byte;
+            self.kept += 1;
+        }
+    }
 
-// What a line is, by the bytes that were kept of it.
-pub fn end_of_line(line: &[u8], gathered: Gathered) -> Ended
-    ensures { result ≡ ended_of gathered.kept gathered.total line.now }
-{
-    let kept = front(line, gathered.kept);
-    let counted = end(kept);
-    if is_skipped(front(kept, counted)) {
-        return Ended::Skipped;
+    // Adds bytes to a line.
+    pub fn add(&mut self, bytes: &[u8], line: &mut [u8])
+        ensures { self.new.kept ≤ max self.old.kept (length line.old) }
+    {
+        for byte in bytes {
+            self.keep(*byte, line);
+        }
     }
-    if LONGEST < above(gathered.total, above(gathered.kept, counted)) {
-        return Ended::TooLong;
+
+    // What the line is, by the bytes that were kept of it.
+    pub fn end(self, line: &[u8]) -> Ended
+        ensures { result ≡ ended_of self.kept self.total line.now }
+    {
+        let kept = front(line, self.kept);
+        let counted = end(kept);
+        if is_skipped(front(kept, counted)) {
+            return Ended::Skipped;
+        }
+        if LONGEST < self.total.saturating_sub(self.kept.saturating_sub(counted)) {
+            return Ended::TooLong;
+        }
+        Ended::Whole(counted)
     }
-    Ended::Whole(counted)
 }

@@ -1,28 +1,29 @@
 -- A bit is taken where the 512ths with it are not above the f64.
-use Rattle.std.proofs.Common.{refl, sym, ◌∙◌, arith}
+use Rattle.std.proofs.Common.{◌+◌, refl, sym, ◌∙◌, arith}
+use Rattle.laws.proofs.Exact.{divided-by-512}
 use Rattle.console_text.specs.Fraction.{parts_of}
 use Rattle.console_text.proofs.Exact.{halves, parts_more, parts_same, parts-done}
 use Rattle.console_text.proofs.fraction.parts.Goals as goal
 
 pub loop-bit-init : goal.loop-bit-init
 unfolding parts_of
-loop-bit-init c = (omega arith, omega arith, refl)
+loop-bit-init c = (omega arith, refl)
 
-pub loop-bit-preserved-then-over_512-x : goal.loop-bit-preserved-then-over_512-x
-loop-bit-preserved-then-over_512-x c =
+pub loop-bit-preserved-then-from-x : goal.loop-bit-preserved-then-from-x
+unfolding lib.Ieee.of_bits
+loop-bit-preserved-then-from-x c =
     let loop = c.loop-bit in
-    let half = halves loop.bit (omega arith) in (
-      omega arith,
-      omega arith,
-      rw c.power.ensures
-          (sym (parts_more loop.bit loop.n c.args.x (omega arith) (rw (c.over_512.ensures, c.power.ensures) at c.if-over_512-x.true)) ∙ loop.invariant.2),
-    )
+    let half = halves loop.bit (omega arith) in
+    let taken = rw (c.from.ensures, divided-by-512 (loop.n + c.pow.result) (omega arith), c.pow.ensures) at c.if-from-x.true in
+    (omega arith, rw c.pow.ensures (sym (parts_more loop.bit loop.n c.args.x (omega arith) taken) ∙ loop.invariant.1))
 
 pub loop-bit-preserved : goal.loop-bit-preserved
+unfolding lib.Ieee.of_bits
 loop-bit-preserved c =
     let loop = c.loop-bit in
     let half = halves loop.bit (omega arith) in
-    (omega arith, omega arith, sym (parts_same loop.bit loop.n c.args.x (omega arith) (rw (c.over_512.ensures, c.power.ensures) at c.if-over_512-x.false)) ∙ loop.invariant.2)
+    let left = rw (c.from.ensures, divided-by-512 (loop.n + c.pow.result) (omega arith), c.pow.ensures) at c.if-from-x.false in
+    (omega arith, sym (parts_same loop.bit loop.n c.args.x (omega arith) left) ∙ loop.invariant.1)
 
 pub returns : goal.returns
-returns c = sym (parts-done c.loop-bit.n c.args.x (omega arith)) ∙ c.loop-bit.invariant.2
+returns c = sym (parts-done c.loop-bit.n c.args.x (omega arith)) ∙ c.loop-bit.invariant.1

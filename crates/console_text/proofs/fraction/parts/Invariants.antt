@@ -4,8 +4,4 @@ use Rattle.console_text.specs.Fraction.{parts_after, parts_of}
 use Rattle.console_text.proofs.fraction.parts.Given as goal
 
 abbrev pub invariant-loop-bit : goal.invariant-loop-bit
-invariant-loop-bit l =
-    (l.bit ≤ 32) × (l.n + 2 ^ l.bit ≤ 2 ^ 32) × (parts_after l.bit l.n l.x ≡ parts_of l.x)
-
-abbrev pub decreases-loop-bit : goal.decreases-loop-bit
-decreases-loop-bit l = l.bit
+invariant-loop-bit l = (l.n + 2 ^ l.bit ≤ 2 ^ 32) × (parts_after l.bit l.n l.x ≡ parts_of l.x)

@@ -3,9 +3,9 @@ use Rattle.std.proofs.Common.{◌≡◌, ◌+◌, ◌-◌, ◌≤◌, length, dr
 use Rattle.console_text.specs.Words.{words_of}
 use Rattle.console_text.proofs.line.count_words.Given as goal
 
-abbrev pub invariant-loop-end : goal.invariant-loop-end
-invariant-loop-end l =
+abbrev pub invariant-loop-word : goal.invariant-loop-word
+invariant-loop-word l =
     (l.at ≤ length l.line) × (l.words ≤ l.at) × (l.words + length (words_of (drop l.at l.line)) ≡ length (words_of l.line))
 
-abbrev pub decreases-loop-end : goal.decreases-loop-end
-decreases-loop-end l = length l.line - l.at
+abbrev pub decreases-loop-word : goal.decreases-loop-word
+decreases-loop-word l = length l.line - l.at

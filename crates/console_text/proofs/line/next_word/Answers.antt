@@ -1,9 +1,10 @@
 -- The first word stands after the blanks.
-use Rattle.console_text.proofs.Runs.{finds-nothing, finds-word}
+use Rattle.std.proofs.Common.{◌+◌, ap}
+use Rattle.console_text.proofs.Runs.{finds-next}
 use Rattle.console_text.proofs.line.next_word.Goals as goal
 
-pub returns-then-line-begin : goal.returns-then-line-begin
-returns-then-line-begin c = finds-nothing c.args.line.now c.args.from _ c.past-begin.ensures c.if-line-begin.true
-
 pub returns : goal.returns
-returns c = finds-word c.args.line.now c.args.from _ c.past-begin.ensures c.if-line-begin.false _ c.past-end.ensures
+returns c =
+    rw c.then_some.ensures
+    (finds-next c.args.line.now c.args.from _ (rw (← c.after.ensures) (ap (λ n. c.args.from + n) c.run.ensures.counted)) _
+    (rw (← c.after-2.ensures) (ap (λ n. c.args.from + c.run.result + n) c.run-2.ensures.counted)))
