@@ -109,5 +109,17 @@ module _ {out bytes before : List ℕ} {next at : ℕ} where
     pub bytes-done : length bytes ≤ i → Put bytes at before out next
     bytes-done h = none-remains (rw (drop_of_length-le bytes h) at r)
 
+-- the same of a page
+pub record Rests (rest : List ℕ) (now : Page) (bytes : List ℕ) (before : Page) : Type 0 where
+  pub remains : Remains rest now.at now.bytes.now bytes before.at before.bytes.now
+  pub same : now.bytes.ghost_name ≡ before.bytes.ghost_name
+
+module _ {bytes : List ℕ} {before now : Page} where
+  pub part-puts : (first rest : List ℕ) {after : Page} → Rests (first ++ rest) now bytes before → Puts first now after → Rests rest after bytes before
+  part-puts first rest r p = record { remains = part-put first rest r.remains p.put; same = p.same ∙ r.same }
+
+  pub none-rests : Rests [] now bytes before → Puts bytes before now
+  none-rests r = record { put = none-remains r.remains; same = r.same }
+
 pub put-length : {at next : ℕ} {before after bytes : List ℕ} → Put bytes at before after next → length after ≡ length before
 put-length {at} {next} {before} {after} {bytes} p = rw p.stored (length-sets before at bytes)
