@@ -1,3 +1,3 @@
-pub mod Words
 pub mod Rows
+pub mod Parts
 pub mod Order

@@ -6,8 +6,9 @@ use mathlib.Core.List.{List, [], ◌∷◌, Memᴰ}
 use Rattle.rules.specs.Basics.{every}
 use Rattle.rules.proofs.Tests.{and_left, and_right}
 use Rattle.console_text.specs.Words.{run_of}
-use Rattle.console_table.specs.Table.{Row, commands, name_of, same_bytes, known, named_among}
-use Rattle.console_table.proofs.Words.{same_self}
+use Rattle.std.specs.Str.{bytes_eq}
+use Rattle.std.proofs.lemmas.Slice.Eq.{bytes_eq-Decides}
+use Rattle.console_table.specs.Table.{Row, commands, name_of, known, named_among}
 
 pub every-member : {A : Type 0} (test : A → Bool) {x : A} (xs : List A) → every test xs ≡ true → Memᴰ x xs → test x ≡ true
 every-member test [] e m = elim m [ ]
@@ -17,10 +18,10 @@ every-member test (y ∷ xs) e (Memᴰ.tail m) = every-member test xs (and_right
 -- ---- no name stands twice
 abbrev differ : List Row → Bool
 differ [] = true
-differ (row ∷ rows) = every (λ other. not (same_bytes (name_of other) (name_of row))) rows && differ rows
+differ (row ∷ rows) = every (λ other. not (bytes_eq (name_of other) (name_of row))) rows && differ rows
 
 pub names-differ : differ commands ≡ true
-unfolding commands run_of same_bytes
+unfolding commands run_of
 names-differ = refl
 
 not-true : (b : Bool) → not b ≡ true → b ≡ false
@@ -31,8 +32,8 @@ not-true false e = refl
 pub named-by-name : (rows : List Row) (i : ℕ) {row : Row} → differ rows ≡ true → Memᴰ row rows → (j : ℕ) × (named_among rows i (name_of row) ≡ known j row)
 unfolding named_among
 named-by-name [] i d m = elim m [ ]
-named-by-name (r ∷ rows) i d (Memᴰ.head e) = (i, rw (e, same_self (name_of r)))
+named-by-name (r ∷ rows) i d (Memᴰ.head e) = (i, rw (e, (bytes_eq-Decides (name_of r) (name_of r)).1 refl))
 named-by-name (r ∷ rows) i {row} d (Memᴰ.tail m) =
-    let apart = every-member (λ other. not (same_bytes (name_of other) (name_of r))) rows (and_left _ (differ rows) d) m in
-    let later = named-by-name rows (i + 1) (and_right (every (λ other. not (same_bytes (name_of other) (name_of r))) rows) (differ rows) d) m in
-    (later.0, rw (not-true (same_bytes (name_of row) (name_of r)) apart) later.1)
+    let apart = every-member (λ other. not (bytes_eq (name_of other) (name_of r))) rows (and_left _ (differ rows) d) m in
+    let later = named-by-name rows (i + 1) (and_right (every (λ other. not (bytes_eq (name_of other) (name_of r))) rows) (differ rows) d) m in
+    (later.0, rw (not-true (bytes_eq (name_of row) (name_of r)) apart) later.1)

@@ -1,9 +1,9 @@
 -- The table of the commands: "| Line | Answer |".
-use Rattle.std.specs.Prelude.{ℕ, ◌+◌, Bool, true, false, ◌&&◌, List, [], ◌∷◌, ◌++◌, map, get_or, take, eqb, if◌then◌else◌}
+use Rattle.std.specs.Prelude.{ℕ, ◌+◌, false, List, [], ◌∷◌, ◌++◌, map, get_or, take, bytes_eq, if◌then◌else◌}
 use Prim.Native.String.{String}
 use Rattle.console_text.specs.Ascii.{ascii}
 use Rattle.console_text.specs.Words.{run_of}
-use Rattle.console_table.specs.declared.Kind.TheVariants as kind
+use Rattle.strings.specs.declared.kind.Kind.TheVariants as kind
 use Rattle.console_table.specs.declared.Verb.TheVariants as verb
 use Rattle.console_table.specs.declared.View.TheVariants as view
 use Rattle.console_table.specs.declared.Request.TheVariants.{Call, Verb, View}
@@ -99,13 +99,6 @@ commands = access_rows ++ (event_rows ++ (state_rows ++ (string_rows ++ galley_r
 abbrev pub name_of : Row → List ℕ
 name_of row = take (run_of false row.usage) row.usage
 
--- two words are the same, byte by byte
-unfoldable pub same_bytes : List ℕ → List ℕ → Bool
-same_bytes [] [] = true
-same_bytes [] (b ∷ second) = false
-same_bytes (a ∷ first) [] = false
-same_bytes (a ∷ first) (b ∷ second) = eqb a b && same_bytes first second
-
 -- the row that a word names, and its place in the table
 pub data Named : Type 0 where
   known : ℕ → Row → Named
@@ -113,7 +106,7 @@ pub data Named : Type 0 where
 
 unfoldable pub named_among : List Row → ℕ → List ℕ → Named
 named_among [] i word = unknown
-named_among (row ∷ rows) i word = if same_bytes word (name_of row) then known i row else named_among rows (i + 1) word
+named_among (row ∷ rows) i word = if bytes_eq word (name_of row) then known i row else named_among rows (i + 1) word
 
 unfoldable pub named_by : List ℕ → Named
 named_by word = named_among commands 0 word

@@ -1,28 +1,18 @@
 // The table of the commands, and the row that a word names.
 #![tactic(auto)]
 
-ghost use Rattle.std.specs.Prelude.{◌≡◌, ◌<◌, ◌≤◌, length, take};
-ghost use Rattle.lent.specs.Put.{Put};
-ghost use Rattle.console_table.specs.Table.{access_rows, event_rows, state_rows, string_rows, galley_rows, commands, same_bytes, named_by, usage_at};
-ghost use Rattle.console_table.specs.Rows.{parameter_by, Describe, RowAt, name_at, name_table, FoundAs};
+ghost use Rattle.std.specs.Prelude.{◌≡◌, map, length, slice_get, position, bytes_eq};
+ghost use Rattle.lent.specs.Put.{Puts};
+ghost use Rattle.console_table.specs.declared.Command.{Command};
+ghost use Rattle.console_table.specs.declared.Parameter.{Parameter};
+ghost use Rattle.console_table.specs.Table.{any, commands, named_by, usage_at};
+ghost use Rattle.console_table.specs.Rows.{parameters_in, Describe, FoundAs};
 
-use check::same;
-use lent::{front, put};
+use lent::Page;
 use numbers::STATE_NUMBERS;
+use strings::Kind;
 
-// The kinds of the calls that are handed a state, which are those of the records of order strings.
-#[derive(Clone, Copy)]
-pub enum Kind {
-    Write,
-    Read,
-    Ticks,
-    Tachometer,
-    Pin,
-    WriteWord,
-    Pulse,
-}
-
-// What else a line asks for and is answered with numbers and bytes.
+// What a line asks for that is no call, and is answered with numbers and bytes.
 #[derive(Clone, Copy)]
 pub enum Verb {
     Start,
@@ -50,7 +40,7 @@ pub enum View {
     Help,
 }
 
-// What a line asks for: a call by its kind, something else, or a text.
+// What a line asks for: a call that is handed a state, by its kind, something else, or a text.
 #[derive(Clone, Copy)]
 pub enum Request {
     Call(Kind),
@@ -74,387 +64,272 @@ pub enum Parameter {
     Bytes,
 }
 
+// The parameters that follow a command: those that are listed, the numbers of a state, or so many numbers that may each be any.
 #[derive(Clone, Copy)]
-pub struct Command {
-    // How it is written: so many bytes.
-    pub usage: [u8; 51],
-    pub long: usize,
-    pub asks: Asks,
-    // How many parameters follow. Up to six are listed, each as a number: the largest that it may be; of a signed one this and
-    // 2 ^ 32; of bytes 2 ^ 33, which neither may be. More are the numbers of a state.
-    pub count: usize,
-    pub slots: [u64; 6],
+pub enum Parameters {
+    Listed(&'static [Parameter]),
+    StateNumbers,
+    Any(usize),
 }
 
-// A row and its place in the table, counted from 0; a place past the last row where there is none.
+impl Parameters {
+    pub fn count(self) -> usize
+        ensures { result ≡ length (parameters_in self) }
+    {
+        match self {
+            Parameters::Listed(parameters) => parameters.len(),
+            Parameters::StateNumbers => STATE_NUMBERS,
+            Parameters::Any(count) => count,
+        }
+    }
+
+    // A parameter, counted from 0.
+    pub fn get(self, i: usize) -> Option<Parameter>
+        ensures { result ≡ slice_get (parameters_in self) i }
+    {
+        match self {
+            Parameters::Listed(parameters) => parameters.get(i).copied(),
+            Parameters::StateNumbers => {
+                (i < STATE_NUMBERS).then_some(Parameter::Number(numbers::limit(i)))
+            }
+            Parameters::Any(count) => (i < count).then_some(ANY),
+        }
+    }
+
+    // As many numbers, which may each be any.
+    pub fn widened(self) -> Parameters
+        ensures { parameters_in result ≡ map (λ (parameter : Parameter). any) (parameters_in self) }
+    {
+        Parameters::Any(self.count())
+    }
+}
+
+// A command: the word that it begins with, and how it is written.
+#[derive(Clone, Copy)]
+pub struct Command {
+    pub name: &'static [u8],
+    pub usage: &'static [u8],
+    pub asks: Asks,
+    pub parameters: Parameters,
+}
+
+// A row and its place in the table, counted from 0.
 #[derive(Clone, Copy)]
 pub struct Found {
     pub place: usize,
-    pub row: Command,
+    pub row: &'static Command,
 }
 
 // The largest number that a line can have.
-pub const LARGEST: u32 = 4294967295;
+pub const LARGEST: u32 = u32::MAX;
 
-const ANY: u64 = 4294967295;
+const ANY: Parameter = Parameter::Number(LARGEST);
 
-const BYTE: u64 = 255;
+const BYTE: Parameter = Parameter::Number(255);
 
-const WORD: u64 = 65535;
+const WORD: Parameter = Parameter::Number(65535);
 
-const LEVEL: u64 = 1;
+const LEVEL: Parameter = Parameter::Number(1);
 
-const ROOM: u64 = 2048;
+const ROOM: Parameter = Parameter::Number(2048);
 
-// Where the slots of signed numbers begin, and after them the one of bytes.
-const SIGNED: u64 = 4294967296;
+const DEGREES: Parameter = Parameter::Signed(2147483647);
 
-const STRING: u64 = 8589934592;
+const STORED: Parameter = Parameter::Signed(32767);
 
-const DEGREES: u64 = SIGNED + 2147483647;
+const BYTES: Parameter = Parameter::Bytes;
 
-const STORED: u64 = SIGNED + 32767;
+const ROWS: usize = 26;
 
-// Past a row's last parameter.
-const NONE: u64 = 0;
-
-// The rows stand in five parts, which are proved apart: starting the device and accessing its registers, what happens to it, what is
-// asked of a state, order strings, and the galley with `help`. A row is copied out of its part.
-const ACCESS_ROWS: usize = 4;
-
-const EVENT_ROWS: usize = 4;
-
-const STATE_ROWS: usize = 7;
-
-const STRING_ROWS: usize = 3;
-
-const GALLEY_ROWS: usize = 8;
-
-// The places of the first rows of the third part and of those after it.
-const STATES_FROM: usize = ACCESS_ROWS + EVENT_ROWS;
-
-const STRINGS_FROM: usize = STATES_FROM + STATE_ROWS;
-
-const GALLEY_FROM: usize = STRINGS_FROM + STRING_ROWS;
-
-pub const ROWS: usize = GALLEY_FROM + GALLEY_ROWS;
-
-// The names, in the order of the rows: eight places each, and then a digit, how many of them the name has. A search goes through these
-// alone, so that it copies one row.
-const PLACES: usize = 9;
-
-const NAMES: [u8; PLACES * ROWS] =
-    *b"start   5write   5word    4read    4ticks   5tach    4pulse   5pin     3cabin   5fanfail 7speed   5dump    4load    4show    4chart   5run     3encode  6decode  6gfresh  6gsample 7gspan   5gread   5gdump   5gload   5gshow   5help    4";
-
-const ACCESSES: [Command; ACCESS_ROWS] = [
+static COMMANDS: [Command; ROWS] = [
     Command {
-        usage: *b"start WATCHDOG SPINUP TARGET FREQUENCY MODIFICATION",
-        long: 51,
+        name: b"start",
+        usage: b"start WATCHDOG SPINUP TARGET FREQUENCY MODIFICATION",
         asks: Asks::For(Request::Verb(Verb::Start)),
-        count: 5,
-        slots: [ANY, ANY, ANY, BYTE, ANY, NONE],
+        parameters: Parameters::Listed(&[ANY, ANY, ANY, BYTE, ANY]),
     },
     Command {
-        usage: *b"write ADDRESS BYTE                                 ",
-        long: 18,
+        name: b"write",
+        usage: b"write ADDRESS BYTE",
         asks: Asks::For(Request::Call(Kind::Write)),
-        count: 2,
-        slots: [ANY, BYTE, NONE, NONE, NONE, NONE],
+        parameters: Parameters::Listed(&[ANY, BYTE]),
     },
     Command {
-        usage: *b"word ADDRESS WORD                                  ",
-        long: 17,
+        name: b"word",
+        usage: b"word ADDRESS WORD",
         asks: Asks::For(Request::Call(Kind::WriteWord)),
-        count: 2,
-        slots: [ANY, WORD, NONE, NONE, NONE, NONE],
+        parameters: Parameters::Listed(&[ANY, WORD]),
     },
     Command {
-        usage: *b"read ADDRESS                                       ",
-        long: 12,
+        name: b"read",
+        usage: b"read ADDRESS",
         asks: Asks::For(Request::Call(Kind::Read)),
-        count: 1,
-        slots: [ANY, NONE, NONE, NONE, NONE, NONE],
+        parameters: Parameters::Listed(&[ANY]),
     },
-];
-
-const EVENTS: [Command; EVENT_ROWS] = [
     Command {
-        usage: *b"ticks N                                            ",
-        long: 7,
+        name: b"ticks",
+        usage: b"ticks N",
         asks: Asks::For(Request::Call(Kind::Ticks)),
-        count: 1,
-        slots: [ANY, NONE, NONE, NONE, NONE, NONE],
+        parameters: Parameters::Listed(&[ANY]),
     },
     Command {
-        usage: *b"tach CHANNEL COUNT                                 ",
-        long: 18,
+        name: b"tach",
+        usage: b"tach CHANNEL COUNT",
         asks: Asks::For(Request::Call(Kind::Tachometer)),
-        count: 2,
-        slots: [ANY, ANY, NONE, NONE, NONE, NONE],
+        parameters: Parameters::Listed(&[ANY, ANY]),
     },
     Command {
-        usage: *b"pulse CHANNEL                                      ",
-        long: 13,
+        name: b"pulse",
+        usage: b"pulse CHANNEL",
         asks: Asks::For(Request::Call(Kind::Pulse)),
-        count: 1,
-        slots: [ANY, NONE, NONE, NONE, NONE, NONE],
+        parameters: Parameters::Listed(&[ANY]),
     },
     Command {
-        usage: *b"pin LEVEL                                          ",
-        long: 9,
+        name: b"pin",
+        usage: b"pin LEVEL",
         asks: Asks::For(Request::Call(Kind::Pin)),
-        count: 1,
-        slots: [LEVEL, NONE, NONE, NONE, NONE, NONE],
+        parameters: Parameters::Listed(&[LEVEL]),
     },
-];
-
-const STATES: [Command; STATE_ROWS] = [
     Command {
-        usage: *b"cabin                                              ",
-        long: 5,
+        name: b"cabin",
+        usage: b"cabin",
         asks: Asks::For(Request::View(View::Cabin)),
-        count: 0,
-        slots: [NONE, NONE, NONE, NONE, NONE, NONE],
+        parameters: Parameters::Listed(&[]),
     },
     Command {
-        usage: *b"fanfail                                            ",
-        long: 7,
+        name: b"fanfail",
+        usage: b"fanfail",
         asks: Asks::For(Request::Verb(Verb::FanFail)),
-        count: 0,
-        slots: [NONE, NONE, NONE, NONE, NONE, NONE],
+        parameters: Parameters::Listed(&[]),
     },
     Command {
-        usage: *b"speed RANGE PULSES COUNT                           ",
-        long: 24,
+        name: b"speed",
+        usage: b"speed RANGE PULSES COUNT",
         asks: Asks::For(Request::View(View::Speed)),
-        count: 3,
-        slots: [ANY, ANY, ANY, NONE, NONE, NONE],
+        parameters: Parameters::Listed(&[ANY, ANY, ANY]),
     },
     Command {
-        usage: *b"dump                                               ",
-        long: 4,
+        name: b"dump",
+        usage: b"dump",
         asks: Asks::For(Request::Verb(Verb::Dump)),
-        count: 0,
-        slots: [NONE, NONE, NONE, NONE, NONE, NONE],
+        parameters: Parameters::Listed(&[]),
     },
     Command {
-        usage: *b"load NUMBERS                                       ",
-        long: 12,
+        name: b"load",
+        usage: b"load NUMBERS",
         asks: Asks::For(Request::Verb(Verb::Load)),
-        count: STATE_NUMBERS,
-        slots: [NONE, NONE, NONE, NONE, NONE, NONE],
+        parameters: Parameters::StateNumbers,
     },
     Command {
-        usage: *b"show                                               ",
-        long: 4,
+        name: b"show",
+        usage: b"show",
         asks: Asks::For(Request::View(View::Show)),
-        count: 0,
-        slots: [NONE, NONE, NONE, NONE, NONE, NONE],
+        parameters: Parameters::Listed(&[]),
     },
     Command {
-        usage: *b"chart TICKS                                        ",
-        long: 11,
+        name: b"chart",
+        usage: b"chart TICKS",
         asks: Asks::For(Request::View(View::Chart)),
-        count: 1,
-        slots: [ANY, NONE, NONE, NONE, NONE, NONE],
+        parameters: Parameters::Listed(&[ANY]),
     },
-];
-
-const STRINGS: [Command; STRING_ROWS] = [
     Command {
-        usage: *b"run STRING ALLOWANCE ROOM                          ",
-        long: 25,
+        name: b"run",
+        usage: b"run STRING ALLOWANCE ROOM",
         asks: Asks::For(Request::Verb(Verb::Run)),
-        count: 3,
-        slots: [STRING, ANY, ROOM, NONE, NONE, NONE],
+        parameters: Parameters::Listed(&[BYTES, ANY, ROOM]),
     },
     Command {
-        usage: *b"encode CALL                                        ",
-        long: 11,
+        name: b"encode",
+        usage: b"encode CALL",
         asks: Asks::Record,
-        count: 0,
-        slots: [NONE, NONE, NONE, NONE, NONE, NONE],
+        parameters: Parameters::Listed(&[]),
     },
     Command {
-        usage: *b"decode STRING                                      ",
-        long: 13,
+        name: b"decode",
+        usage: b"decode STRING",
         asks: Asks::For(Request::View(View::Decode)),
-        count: 1,
-        slots: [STRING, NONE, NONE, NONE, NONE, NONE],
+        parameters: Parameters::Listed(&[BYTES]),
     },
-];
-
-const GALLEY: [Command; GALLEY_ROWS] = [
     Command {
-        usage: *b"gfresh HIGH OVER HYSTERESIS QUIET                  ",
-        long: 33,
+        name: b"gfresh",
+        usage: b"gfresh HIGH OVER HYSTERESIS QUIET",
         asks: Asks::For(Request::Verb(Verb::GalleyFresh)),
-        count: 4,
-        slots: [DEGREES, DEGREES, LEVEL, LEVEL, NONE, NONE],
+        parameters: Parameters::Listed(&[DEGREES, DEGREES, LEVEL, LEVEL]),
     },
     Command {
-        usage: *b"gsample T NORMAL QUIET                             ",
-        long: 22,
+        name: b"gsample",
+        usage: b"gsample T NORMAL QUIET",
         asks: Asks::For(Request::Verb(Verb::GalleySample)),
-        count: 3,
-        slots: [DEGREES, STRING, STRING, NONE, NONE, NONE],
+        parameters: Parameters::Listed(&[DEGREES, BYTES, BYTES]),
     },
     Command {
-        usage: *b"gspan FIRST END NORMAL QUIET                       ",
-        long: 28,
+        name: b"gspan",
+        usage: b"gspan FIRST END NORMAL QUIET",
         asks: Asks::For(Request::Verb(Verb::GalleySpan)),
-        count: 4,
-        slots: [ANY, ANY, STRING, STRING, NONE, NONE],
+        parameters: Parameters::Listed(&[ANY, ANY, BYTES, BYTES]),
     },
     Command {
-        usage: *b"gread                                              ",
-        long: 5,
+        name: b"gread",
+        usage: b"gread",
         asks: Asks::For(Request::View(View::GalleyRead)),
-        count: 0,
-        slots: [NONE, NONE, NONE, NONE, NONE, NONE],
+        parameters: Parameters::Listed(&[]),
     },
     Command {
-        usage: *b"gdump                                              ",
-        long: 5,
+        name: b"gdump",
+        usage: b"gdump",
         asks: Asks::For(Request::Verb(Verb::GalleyDump)),
-        count: 0,
-        slots: [NONE, NONE, NONE, NONE, NONE, NONE],
+        parameters: Parameters::Listed(&[]),
     },
     Command {
-        usage: *b"gload NUMBERS                                      ",
-        long: 13,
+        name: b"gload",
+        usage: b"gload NUMBERS",
         asks: Asks::For(Request::Verb(Verb::GalleyLoad)),
-        count: 6,
-        slots: [BYTE, STORED, STORED, STORED, LEVEL, LEVEL],
+        parameters: Parameters::Listed(&[BYTE, STORED, STORED, STORED, LEVEL, LEVEL]),
     },
     Command {
-        usage: *b"gshow                                              ",
-        long: 5,
+        name: b"gshow",
+        usage: b"gshow",
         asks: Asks::For(Request::View(View::GalleyShow)),
-        count: 0,
-        slots: [NONE, NONE, NONE, NONE, NONE, NONE],
+        parameters: Parameters::Listed(&[]),
     },
     Command {
-        usage: *b"help                                               ",
-        long: 4,
+        name: b"help",
+        usage: b"help",
         asks: Asks::For(Request::View(View::Help)),
-        count: 0,
-        slots: [NONE, NONE, NONE, NONE, NONE, NONE],
+        parameters: Parameters::Listed(&[]),
     },
 ];
 
-// The parameter that a row holds as a number.
-pub fn held(slot: u64) -> Parameter
-    ensures { result ≡ parameter_by slot }
+fn table() -> &'static [Command; ROWS]
+    ensures { Describe result.now commands }
 {
-    if slot < SIGNED {
-        return Parameter::Number(slot as u32);
-    }
-    if slot < STRING {
-        return Parameter::Signed((slot - SIGNED) as u32);
-    }
-    Parameter::Bytes
+    &COMMANDS
 }
 
-fn accesses() -> [Command; ACCESS_ROWS]
-    ensures { Describe result access_rows }
+// The place of the row that a word names.
+fn place_of(rows: &[Command], word: &[u8]) -> Option<usize>
+    ensures { result ≡ position (λ (row : Command). bytes_eq word.now row.name.now) rows.now }
 {
-    ACCESSES
-}
-
-fn events() -> [Command; EVENT_ROWS]
-    ensures { Describe result event_rows }
-{
-    EVENTS
-}
-
-fn states() -> [Command; STATE_ROWS]
-    ensures { Describe result state_rows }
-{
-    STATES
-}
-
-fn order_strings() -> [Command; STRING_ROWS]
-    ensures { Describe result string_rows }
-{
-    STRINGS
-}
-
-fn galley() -> [Command; GALLEY_ROWS]
-    ensures { Describe result galley_rows }
-{
-    GALLEY
-}
-
-// The row at a place.
-fn row(place: usize) -> Command
-    requires { place < length commands }
-    ensures { RowAt result commands place }
-{
-    if place < ACCESS_ROWS {
-        let rows = accesses();
-        return rows[place];
-    }
-    if place < STATES_FROM {
-        let rows = events();
-        return rows[place - ACCESS_ROWS];
-    }
-    if place < STRINGS_FROM {
-        let rows = states();
-        return rows[place - STATES_FROM];
-    }
-    if place < GALLEY_FROM {
-        let rows = order_strings();
-        return rows[place - STRINGS_FROM];
-    }
-    let rows = galley();
-    rows[place - GALLEY_FROM]
-}
-
-fn names() -> [u8; PLACES * ROWS]
-    ensures { result ≡ name_table }
-{
-    NAMES
-}
-
-// Whether a word is the name of the row at a place.
-fn is_name(word: &[u8], names: &[u8], place: usize) -> bool
-    requires { (place < length commands) × (names.now ≡ name_table) }
-    ensures { result ≡ same_bytes word.now (name_at place) }
-{
-    let from = PLACES * place;
-    let to = from + (names[from + 8] - b'0') as usize;
-    same(word, &names[from..to])
+    rows.iter().position(|row| word == row.name)
 }
 
 // The row that a word names.
-pub fn find(word: &[u8]) -> Found
+pub fn find(word: &[u8]) -> Option<Found>
     ensures { FoundAs (named_by word.now) result }
 {
-    let names = names();
-    let mut i = 0;
-    while i < ROWS {
-        if is_name(word, &names, i) {
-            return Found {
-                place: i,
-                row: row(i),
-            };
-        }
-        i += 1;
-    }
-    Found {
-        place: ROWS,
-        row: row(0),
-    }
+    let rows = table();
+    let place = place_of(rows, word)?;
+    Some(Found {
+        place,
+        row: &rows[place],
+    })
 }
 
 // Puts how the command at a place of the table is written; nothing where there is none.
-pub fn put_usage(place: usize, out: &mut [u8], at: usize) -> usize
-    ensures { Put (usage_at place) at out.old out.new result }
+pub fn put_usage(page: &mut Page, place: usize)
+    ensures { Puts (usage_at place) page.old page.new }
 {
-    if ROWS <= place {
-        return put(b"", out, at);
+    if let Some(row) = table().get(place) {
+        page.put(row.usage);
     }
-    let command = row(place);
-    put(front(&command.usage, command.long), out, at)
 }

@@ -1,10 +1,10 @@
--- The rows of this part are the table's, by computation.
+-- The rows are the table's, by computation.
 use Rattle.std.proofs.Common.{refl}
 use Rattle.console_text.specs.Words.{run_of}
 use Rattle.numbers.specs.Numbers.{channels_limits, limits}
 use Rattle.console_table.specs.Table.{commands, state_numbers}
-use Rattle.console_table.proofs.galley.Goals as goal
+use Rattle.console_table.proofs.table.Goals as goal
 
 pub returns : goal.returns
 unfolding commands state_numbers limits channels_limits run_of
-returns c = refl
+returns c = record { same = refl; names = refl }
