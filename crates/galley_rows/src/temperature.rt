@@ -1,9 +1,11 @@
 // Temperatures, in signed eighths of a degree, and the rows that they stand for.
-ghost use Rattle.std.specs.Prelude.{◌≡◌, ◌-◌, ◌/◌, ◌≤◌, min, pos, ◌+ℤ◌};
+ghost use Rattle.std.specs.Prelude.{◌≡◌, ◌-◌, ◌/◌, ◌≤◌, min, pos, ◌+ℤ◌, if◌then◌else◌};
 ghost use Rattle.std.specs.Int.Signed.{lt_z};
 ghost use Rattle.galley_rules.specs.Temperature.{in_range, row_of};
 ghost use Rattle.galley_rules.specs.Galley.{eighths_of};
 ghost use Rattle.galley_rules.specs.Sample.{row_after};
+
+use galley_rules::GalleyRefusal;
 
 const LOWEST: i32 = -1024;
 
@@ -21,6 +23,16 @@ pub fn in_range(t: i32) -> bool
     ensures { result ≡ in_range t }
 {
     (LOWEST..=HIGHEST).contains(&t)
+}
+
+// A temperature in range, as a galley holds it.
+pub fn taken(t: i32) -> Result<i16, GalleyRefusal>
+    ensures { result ≡ (if in_range t then Ok t else Err GalleyRefusal.TemperatureOutOfRange) }
+{
+    if !in_range(t) {
+        return Err(GalleyRefusal::TemperatureOutOfRange);
+    }
+    Ok(t as i16)
 }
 
 pub fn is_above(t: i32, threshold: i16) -> bool

@@ -1,17 +1,17 @@
 -- Eighths of a degree divided as the machine divides are exact, and so is the reading.
-use Prim.Native.Nat.{suc, ◌^◌, ◌<◌}
+use Prim.Native.Nat.{ℕ, suc, ◌^◌, ◌<◌}
 use mathlib.Core.Path.{◌≡◌, refl}
 use mathlib.Core.Bool.{true, false, not}
 use native.Mathlib.Omega.{arith}
 use native.Mathlib.Nat.{le_of_lt}
-use lib.Ieee.{fin, binary64, round, of_int, of_bits, div}
+use lib.Ieee.{Float, fin, binary64, of_int, div}
 use lib.Ieee.Back.{round_whole}
 use lib.Ieee.Exact.{HasValue}
 use lib.IntN.{ℤ, pos, negsuc, nat_abs}
 use lib.Signed.{mag, non_neg}
 use Rattle.rules.specs.Calls.{accepted, state_not_valid}
 use Rattle.laws.proofs.Exact.{fraction-exact, divided-is-rounded}
-use Rattle.galley_rules.specs.Types.{Galley, DegreesAnswer}
+use Rattle.galley_rules.specs.Types.{Galley}
 use Rattle.galley_rules.specs.Galley.{valid_galley}
 use Rattle.galley_rules.specs.Degrees.{over8, Exactly, temperature_read, degrees_read}
 
@@ -36,14 +36,14 @@ divided-by-8 t h = divided-is-rounded (not (non_neg t)) (of_int binary64 t) (nat
 
 -- ---- the promise of the call, from what its test told
 
-module _ (g : Galley) (fits : mag g.temperature < 2 ^ 15) where
-  abbrev pub DegreesPromise : DegreesAnswer → Type 0
-  DegreesPromise r = (r ≡ degrees_read g) × (Exactly (temperature_read g) r.degrees × (r.galley ≡ g))
+abbrev pub ReadAs : Galley → ℕ → Float → Type 0
+ReadAs g refusal degrees =
+    (record { refusal = refusal; degrees = degrees; galley = g } ≡ degrees_read g) × Exactly (temperature_read g) degrees
 
-  pub degrees-refused : valid_galley g ≡ false → DegreesPromise (record { refusal = state_not_valid; degrees = of_bits binary64 0; galley = g })
-  unfolding degrees_read temperature_read over8 of_bits round
-  degrees-refused bad = rw bad (refl, (over-8-exact (pos 0) (omega arith), refl))
+pub degrees-refused : (g : Galley) → valid_galley g ≡ false → ReadAs g state_not_valid (over8 (pos 0))
+unfolding degrees_read temperature_read
+degrees-refused g bad = rw bad (refl, over-8-exact (pos 0) (omega arith))
 
-  pub degrees-given : (r : DegreesAnswer) → valid_galley g ≡ true → r ≡ record { refusal = accepted; degrees = over8 g.temperature; galley = g } → DegreesPromise r
-  unfolding degrees_read temperature_read
-  degrees-given r good e = rw (e, good) (refl, (over-8-exact g.temperature fits, refl))
+pub degrees-given : (g : Galley) → mag g.temperature < 2 ^ 15 → valid_galley g ≡ true → ReadAs g accepted (over8 g.temperature)
+unfolding degrees_read temperature_read
+degrees-given g fits good = rw good (refl, over-8-exact g.temperature fits)

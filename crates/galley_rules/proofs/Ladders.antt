@@ -1,23 +1,24 @@
 -- From what the tests of a call told to its equation, and back: the ladders of refusals.
-use Prim.Native.Nat.{ℕ, ◌-◌, ◌≤◌}
+use Prim.Native.Nat.{ℕ, ◌-◌, ◌≤◌, ◌<◌}
 use mathlib.Core.Path.{◌≡◌, refl}
+use mathlib.Core.Logic.{◌⊎◌, inl, inr}
 use mathlib.Core.Bool.{Bool, true, false, not}
 use mathlib.Core.List.{List, []}
 use native.Mathlib.Omega.{arith}
 use lib.Dec.{eqb, ltb}
-use lib.IntN.{ℤ, pos}
+use lib.IntN.{ℤ}
 use lib.ListN.{length, take, drop}
 use lib.Signed.{lt_z}
-use borrow.Author.Tests.{eq-eqb, ne_eqb, eqb-true, ltb-false}
+use borrow.Author.Tests.{eq-eqb, ne_eqb, eqb-true, lt-ltb, le-ltb}
 use Rattle.std.specs.Prelude.{if◌then◌else◌}
 use Rattle.rules.specs.Calls.{accepted, state_not_valid}
 use Rattle.rules.specs.Valid.{valid_of}
 use Rattle.rules.specs.Make.{after_each}
 use Rattle.rules.proofs.Tests.{by-test, and_left, and_right}
-use Rattle.galley_rules.specs.Types.{State, Galley, GalleyAnswer, SampleAnswer}
+use Rattle.galley_rules.specs.Types.{State, Galley, SampleAnswer}
 use Rattle.galley_rules.specs.Temperature.{in_range}
-use Rattle.galley_rules.specs.Galley.{temperature_out_of_range, galley, zero_galley, with_sample, valid_galley, galley_answer, fresh_of}
-use Rattle.galley_rules.specs.Table.{no_table, are_tables}
+use Rattle.galley_rules.specs.Galley.{temperature_out_of_range, with_sample, valid_galley}
+use Rattle.galley_rules.specs.Table.{no_table, are_tables, in_force}
 use Rattle.galley_rules.specs.Sample.{sample_refusal, sample_row, sample_calls, sample_answer, sample_of}
 use Rattle.galley_rules.specs.Span.{rows_outside, span_refusal, span_rows}
 
@@ -64,51 +65,23 @@ module _ (g : Galley) (s : State) (t : ℤ) (normal quiet : List ℕ) where
   unfolding sample_of
   accepted-state fine = rw (eq-eqb _ _ fine) refl
 
--- ---- a fresh galley
-
-module _ (high over : ℤ) (hysteresis on : Bool) where
-  pub high-out-of-range : (r : GalleyAnswer) → in_range high ≡ false → r ≡ galley_answer temperature_out_of_range zero_galley → r ≡ fresh_of high over hysteresis on
-  unfolding fresh_of
-  high-out-of-range r bad e = rw bad e
-
-  pub over-out-of-range : (r : GalleyAnswer) → in_range high ≡ true → in_range over ≡ false → r ≡ galley_answer temperature_out_of_range zero_galley →
-      r ≡ fresh_of high over hysteresis on
-  unfolding fresh_of
-  over-out-of-range r good bad e = rw (good, bad) e
-
-  pub both-in-range : (r : GalleyAnswer) → in_range high ≡ true → in_range over ≡ true →
-      r ≡ galley_answer accepted (galley 0 (pos 0) high over hysteresis on) → r ≡ fresh_of high over hysteresis on
-  unfolding fresh_of
-  both-in-range r good fine e = rw (good, fine) e
-
 -- ---- a span of rows
 
--- no refusal: both tables have 48 bytes, and the span lies in them
-span-passed : (first second : Bool) (a b : ℕ) →
-    (if not first then state_not_valid
-    else if not second then no_table
-    else if ltb b a then rows_outside
-    else if ltb 48 b then rows_outside
-    else accepted) ≡ accepted →
-    (second ≡ true) × (a ≤ b) × (b ≤ 48)
-span-passed true true a b e =
-    by-test (ltb b a) (λ bad. absurd (omega (arith, rw bad at e)))
-    (λ low. by-test (ltb 48 b) (λ bad. absurd (omega (arith, rw (low, bad) at e)))
-    (λ high. (refl, ltb-false b a low, ltb-false 48 b high)))
-span-passed true false a b e = absurd (omega (arith, e))
-span-passed false second a b e = absurd (omega (arith, e))
-
 module _ (g : Galley) (a b : ℕ) (normal quiet : List ℕ) where
-  pub span-facts : span_refusal g a b normal quiet ≡ accepted → (length normal ≡ 48) × (length quiet ≡ 48) × (a ≤ b) × (b ≤ 48)
-  unfolding span_refusal
-  span-facts e =
-      let facts = span-passed (valid_galley g) (are_tables normal quiet) a b e in
-      let long = tables-long normal quiet facts.0 in
-      (long.0, long.1, facts.1, facts.2)
+  -- every test has passed
+  pub span-inside : valid_galley g ≡ true → are_tables normal quiet ≡ true → a ≤ b → b ≤ 48 →
+      (span_refusal g a b normal quiet ≡ accepted) × (take (b - a) (drop a (in_force g.quiet normal quiet)) ≡ span_rows g a b normal quiet)
+  unfolding span_rows span_refusal
+  span-inside valid whole low high = rw (valid, whole, le-ltb b a low, le-ltb 48 b high) (refl, refl)
 
-  pub refused-span : (refusal : ℕ) → refusal ≡ span_refusal g a b normal quiet → (refusal ≡ accepted → ⊥) → [] ≡ span_rows g a b normal quiet
-  unfolding span_rows
-  refused-span refusal is other = rw (← is, ne_eqb refusal accepted other) refl
+  -- the last two have not
+  pub span-outside : valid_galley g ≡ true → are_tables normal quiet ≡ true → (b < a) ⊎ (48 < b) →
+      (rows_outside ≡ span_refusal g a b normal quiet) × (span_rows g a b normal quiet ≡ [])
+  unfolding span_rows span_refusal
+  span-outside valid whole (inl before) = rw (valid, whole, lt-ltb b a before) (refl, refl)
+  span-outside valid whole (inr past) =
+      rw (valid, whole)
+      (by-test (ltb b a) (λ before. rw before (refl, refl)) (λ other. rw (other, lt-ltb 48 b past) (refl, refl)))
 
   pub quiet-span : span_refusal g a b normal quiet ≡ accepted → g.quiet ≡ true → take (b - a) (drop a quiet) ≡ span_rows g a b normal quiet
   unfolding span_rows
@@ -117,3 +90,8 @@ module _ (g : Galley) (a b : ℕ) (normal quiet : List ℕ) where
   pub normal-span : span_refusal g a b normal quiet ≡ accepted → g.quiet ≡ false → take (b - a) (drop a normal) ≡ span_rows g a b normal quiet
   unfolding span_rows
   normal-span fine off = rw (eq-eqb _ accepted fine, off) refl
+
+-- the table in force has a byte a row
+pub in-force-long : (flag : Bool) (normal quiet : List ℕ) → are_tables normal quiet ≡ true → length (in_force flag normal quiet) ≡ 48
+in-force-long true normal quiet e = (tables-long normal quiet e).1
+in-force-long false normal quiet e = (tables-long normal quiet e).0

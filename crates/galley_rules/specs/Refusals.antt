@@ -1,5 +1,5 @@
 -- What the code gives of a galley's calls, by the paper's numbers.
-use Rattle.std.specs.Prelude.{ℕ, false, Float, pos, List, Result, Ok, Err}
+use Rattle.std.specs.Prelude.{ℕ, false, Float, pos, Result, Ok, Err}
 use Rattle.rules.specs.Calls.{accepted, state_not_valid}
 use Rattle.galley_rules.specs.Types.{State, Galley, Sample, GalleyRefusal, GalleyAnswer, SampleAnswer, DegreesAnswer}
 use Rattle.galley_rules.specs.declared.refusal.GalleyRefusal.TheVariants.{StateNotValid, NoTable, RowsOutside, TemperatureOutOfRange}
