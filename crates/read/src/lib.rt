@@ -1,9 +1,9 @@
 // The call read.
 #![tactic(auto)]
 
-ghost use Rattle.std.specs.Prelude.{◌≡◌, ◌<◌};
-ghost use Rattle.rules.specs.Map.{is_carried, status_index, index_of};
-ghost use Rattle.rules.specs.Calls.{read_answer};
+ghost use Rattle.std.specs.Prelude.{◌≡◌, if◌then◌else◌};
+ghost use Rattle.rules.specs.Map.{is_carried};
+ghost use Rattle.rules.specs.Calls.{read_answer_by};
 ghost use Rattle.rules.specs.Read.{box_byte, channel_byte, target_word, status_byte, place_byte, after_read, read_of};
 
 use device::duty::{conditions, fault_byte, output_duty};
@@ -12,11 +12,12 @@ use registers::access::accessed;
 use registers::kept::control_byte;
 use registers::map::place_at;
 use rules::{
-    ACCEPTED, BoxRegister, Channel, ChannelRegister, NOT_CARRIED, Place, ReadAnswer,
-    STATE_NOT_VALID, State, StatusRegister, WordRegister,
+    BoxRegister, ByteRead, Channel, ChannelRegister, Place, Refusal, State, StatusRegister, Timer,
+    WordRegister,
 };
 use words::{count_word, duty_word, output_word, word_byte};
 
+#[tactic(auto, unfolding(rules::specs::Read::box_byte))]
 fn box_byte(state: State, register: BoxRegister) -> u8
     ensures { result ≡ box_byte state register }
 {
@@ -29,6 +30,7 @@ fn box_byte(state: State, register: BoxRegister) -> u8
     }
 }
 
+#[tactic(auto, unfolding(rules::specs::Read::channel_byte))]
 fn channel_byte(channel: Channel, register: ChannelRegister) -> u8
     ensures { result ≡ channel_byte channel register }
 {
@@ -39,6 +41,7 @@ fn channel_byte(channel: Channel, register: ChannelRegister) -> u8
     }
 }
 
+#[tactic(auto, unfolding(rules::specs::Read::target_word))]
 fn target_word(channel: Channel, register: WordRegister) -> u16
     ensures { result ≡ target_word channel register }
 {
@@ -48,24 +51,18 @@ fn target_word(channel: Channel, register: WordRegister) -> u16
     }
 }
 
+#[tactic(auto, unfolding(rules::specs::Read::status_byte))]
 fn status_byte(state: State, register: StatusRegister) -> u8
-    requires { status_index register < 6 }
     ensures { result ≡ status_byte state register }
 {
     match register {
         StatusRegister::Faults2 => 0,
-        StatusRegister::Faults1 => {
-            let channels = state.channels;
-            fault_byte(channels)
-        }
-        StatusRegister::Count(i, low) => {
-            let channel = state.channels[i];
-            word_byte(count_word(channel.count), low)
-        }
+        StatusRegister::Faults1 => fault_byte(state.channels),
+        StatusRegister::Count(i, low) => word_byte(count_word(state.channels[i.get()].count), low),
         StatusRegister::OtherCount(low) => word_byte(0xFFE0, low),
         StatusRegister::Output(i, low) => {
-            let channel = state.channels[i];
-            word_byte(output_word(output_duty(conditions(state), channel)), low)
+            let duty = output_duty(conditions(state), state.channels[i.get()]);
+            word_byte(output_word(duty), low)
         }
     }
 }
@@ -73,62 +70,41 @@ fn status_byte(state: State, register: StatusRegister) -> u8
 fn after_read(state: State, address: u32) -> State
     ensures { result ≡ after_read state address }
 {
-    let mut next = state;
-    let status = state.timer.status & (address != 0x00);
-    next.timer.status = status;
-    accessed(next)
+    let timer = Timer {
+        status: state.timer.status & (address != 0x00),
+        ..state.timer
+    };
+    accessed(State { timer, ..state })
 }
 
-fn is_carried(place: Place) -> bool
-    ensures { result ≡ is_carried place }
+// The byte that a place reads, if anything stands there.
+#[tactic(auto, unfolding(rules::specs::Read::place_byte))]
+fn place_byte(state: State, place: Place) -> Option<u8>
+    ensures { result ≡ (if is_carried place then Some (place_byte state place) else None) }
 {
     match place {
-        Place::Absent => false,
-        Place::ReadOnly(_) => true,
-        Place::Shared(_) => true,
-        Place::Own(_, _) => true,
-        Place::OwnWord(_, _, _) => true,
-    }
-}
-
-// The byte that a place reads.
-fn place_byte(state: State, place: Place) -> u8
-    requires { index_of place < 6 }
-    ensures { result ≡ place_byte state place }
-{
-    match place {
-        Place::Absent => 0,
-        Place::ReadOnly(register) => status_byte(state, register),
-        Place::Shared(register) => box_byte(state, register),
-        Place::Own(register, i) => channel_byte(state.channels[i], register),
-        Place::OwnWord(register, i, low) => word_byte(
-            target_word(state.channels[i], register),
-            low,
-        ),
-    }
-}
-
-fn read_answer(refusal: u8, byte: u8, state: State) -> ReadAnswer
-    ensures { result ≡ read_answer refusal byte state }
-{
-    ReadAnswer {
-        refusal: refusal,
-        byte: byte,
-        state: state,
+        Place::Absent => None,
+        Place::ReadOnly(register) => Some(status_byte(state, register)),
+        Place::Shared(register) => Some(box_byte(state, register)),
+        Place::Own(register, i) => Some(channel_byte(state.channels[i.get()], register)),
+        Place::OwnWord(register, i, low) => {
+            let word = target_word(state.channels[i.get()], register);
+            Some(word_byte(word, low))
+        }
     }
 }
 
 // The byte at an address, from the state before the read.
-pub fn read(state: State, address: u32) -> ReadAnswer
-    ensures { result ≡ read_of state address }
+#[tactic(auto, unfolding(rules::specs::Read::read_of, rules::specs::Read::read_at))]
+pub fn read(state: State, address: u32) -> Result<ByteRead, Refusal>
+    ensures { read_answer_by state result ≡ read_of state address }
 {
     if !valid(state) {
-        return read_answer(STATE_NOT_VALID, 0, state);
+        return Err(Refusal::StateNotValid);
     }
-    let place = place_at(address);
-    let after = after_read(state, address);
-    if !is_carried(place) {
-        return read_answer(NOT_CARRIED, 0, state);
-    }
-    read_answer(ACCEPTED, place_byte(state, place), after)
+    let byte = place_byte(state, place_at(address)).ok_or(Refusal::NotCarried)?;
+    Ok(ByteRead {
+        byte,
+        state: after_read(state, address),
+    })
 }
