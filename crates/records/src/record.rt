@@ -1,162 +1,109 @@
 // A record of an order string, one step a byte, and the record that stands at an index of a lent string.
-ghost use Rattle.std.specs.Prelude.{◌≡◌, ◌≤◌, ◌<◌, ◌*◌, ◌^◌};
+ghost use Rattle.std.specs.Prelude.{◌≡◌};
 ghost use Rattle.strings.specs.Number.{group_of};
-ghost use Rattle.strings.specs.Record.{begun, kind_of, number_of, HalfRead, step_of};
+ghost use Rattle.strings.specs.Record.{kind_of, number_of, step_of};
+ghost use Rattle.strings.specs.Refusals.{group_by, step_by, found_by};
 ghost use Rattle.strings.specs.String.{record_at};
-ghost use Rattle.strings.specs.declared.Stage.TheVariants.{WriteByte, PinLevel, WordValue};
 
 use rules::Call;
-use strings::{
-    Found, Group, LONG_FORM, NO_RECORD, NUMBER_TOO_LARGE, PIN, PULSE, Partial, READ, STRING_ENDS,
-    Stage, Step, TACHOMETER, TICKS, WRITE, WRITE_WORD,
-};
+use strings::{Found, Group, Kind, Partial, Stage, Step, StringRefusal};
 
-#[tactic(auto, using(crate::proofs::Numbers::groups))]
-fn next_group(groups: u32, value: u32, byte: u32) -> Group
-    requires { (groups ≤ 4) × (value < 2 ^ (7 * groups)) × (byte < 256) }
-    ensures { result ≡ group_of groups value byte }
+// What a byte makes of the number that is being read. The fifth byte holds four bits and is the last.
+fn next_group(partial: Partial, byte: u8) -> Result<Group, StringRefusal>
+    ensures { group_by result ≡ group_of partial.groups partial.value byte }
 {
-    if byte == 0 {
-        if groups == 0 {
-            return Group::Last(value);
-        }
-        return Group::Refused(LONG_FORM);
+    if partial.groups == 4 && byte > 15 {
+        return Err(StringRefusal::NumberTooLarge);
     }
-    let by = 7 * groups;
-    if byte < 16 {
-        return Group::Last(value + (byte << by));
+    if partial.groups > 0 && byte == 0 {
+        return Err(StringRefusal::LongForm);
     }
-    if groups == 4 {
-        return Group::Refused(NUMBER_TOO_LARGE);
-    }
+    let value = partial.value + (u32::from(byte % 128) << (7 * partial.groups));
     if byte < 128 {
-        return Group::Last(value + (byte << by));
+        Ok(Group::Last(value))
+    } else {
+        Ok(Group::More(value))
     }
-    Group::More(value + ((byte - 128) << by))
 }
 
-// A stage whose number has not begun.
-fn begin(stage: Stage) -> Partial
-    ensures { result ≡ begun stage }
+#[tactic(auto, unfolding(strings::specs::Record::kind_of))]
+fn take_kind(kind: u32) -> Result<Step, StringRefusal>
+    ensures { step_by result ≡ kind_of kind }
 {
-    Partial {
-        stage: stage,
-        groups: 0,
-        value: 0,
-    }
+    let kind = Kind::numbered(kind).ok_or(StringRefusal::NoRecord)?;
+    let stage = match kind {
+        Kind::Write => Stage::WriteAddress,
+        Kind::Read => Stage::ReadAddress,
+        Kind::Ticks => Stage::TickCount,
+        Kind::Tachometer => Stage::ResultChannel,
+        Kind::Pin => Stage::PinLevel,
+        Kind::WriteWord => Stage::WordAddress,
+        Kind::Pulse => Stage::PulseChannel,
+    };
+    Ok(Step::More(Partial::begun(stage)))
 }
 
-fn take_kind(kind: u32) -> Step
-    ensures { result ≡ kind_of kind }
-{
-    if kind == WRITE {
-        return Step::More(begin(Stage::WriteAddress));
-    }
-    if kind == READ {
-        return Step::More(begin(Stage::ReadAddress));
-    }
-    if kind == TICKS {
-        return Step::More(begin(Stage::TickCount));
-    }
-    if kind == TACHOMETER {
-        return Step::More(begin(Stage::ResultChannel));
-    }
-    if kind == PIN {
-        return Step::More(begin(Stage::PinLevel));
-    }
-    if kind == WRITE_WORD {
-        return Step::More(begin(Stage::WordAddress));
-    }
-    if kind == PULSE {
-        return Step::More(begin(Stage::PulseChannel));
-    }
-    Step::Refused(NO_RECORD)
-}
-
-fn take_value(address: u32, byte: u32) -> Step
-    ensures { result ≡ number_of (WriteByte address) byte }
-{
-    if byte < 256 {
-        return Step::Whole(Call::Write(address, byte as u8));
-    }
-    Step::Refused(NO_RECORD)
-}
-
-fn take_level(level: u32) -> Step
-    ensures { result ≡ number_of PinLevel level }
-{
-    if level < 2 {
-        return Step::Whole(Call::Pin(level == 1));
-    }
-    Step::Refused(NO_RECORD)
-}
-
-fn take_word(address: u32, word: u32) -> Step
-    ensures { result ≡ number_of (WordValue address) word }
-{
-    if word < 65536 {
-        return Step::Whole(Call::WriteWord(address, word as u16));
-    }
-    Step::Refused(NO_RECORD)
-}
-
-// What a whole number makes of a record.
-fn take_number(stage: Stage, number: u32) -> Step
-    ensures { result ≡ number_of stage number }
+// What a whole number makes of a record. Of a write the value is a byte, of a pin the level 0 or 1, and a word has 16 bits.
+#[tactic(auto, unfolding(strings::specs::Record::number_of))]
+fn take_number(stage: Stage, number: u32) -> Result<Step, StringRefusal>
+    ensures { step_by result ≡ number_of stage number }
 {
     match stage {
         Stage::Kind => take_kind(number),
-        Stage::WriteAddress => Step::More(begin(Stage::WriteByte(number))),
-        Stage::WriteByte(address) => take_value(address, number),
-        Stage::ReadAddress => Step::Whole(Call::Read(number)),
-        Stage::TickCount => Step::Whole(Call::Ticks(number)),
-        Stage::ResultChannel => Step::More(begin(Stage::ResultCount(number))),
-        Stage::ResultCount(channel) => Step::Whole(Call::Tachometer(channel, number)),
-        Stage::PinLevel => take_level(number),
-        Stage::WordAddress => Step::More(begin(Stage::WordValue(number))),
-        Stage::WordValue(address) => take_word(address, number),
-        Stage::PulseChannel => Step::Whole(Call::Pulse(number)),
+        Stage::WriteAddress => Ok(Step::More(Partial::begun(Stage::WriteByte(number)))),
+        Stage::WriteByte(address) => {
+            let byte = u8::try_from(number).map_err(|_| StringRefusal::NoRecord)?;
+            Ok(Step::Whole(Call::Write(address, byte)))
+        }
+        Stage::ReadAddress => Ok(Step::Whole(Call::Read(number))),
+        Stage::TickCount => Ok(Step::Whole(Call::Ticks(number))),
+        Stage::ResultChannel => Ok(Step::More(Partial::begun(Stage::ResultCount(number)))),
+        Stage::ResultCount(channel) => Ok(Step::Whole(Call::Tachometer(channel, number))),
+        Stage::PinLevel => match number {
+            0 => Ok(Step::Whole(Call::Pin(false))),
+            1 => Ok(Step::Whole(Call::Pin(true))),
+            _ => Err(StringRefusal::NoRecord),
+        },
+        Stage::WordAddress => Ok(Step::More(Partial::begun(Stage::WordValue(number)))),
+        Stage::WordValue(address) => {
+            let word = u16::try_from(number).map_err(|_| StringRefusal::NoRecord)?;
+            Ok(Step::Whole(Call::WriteWord(address, word)))
+        }
+        Stage::PulseChannel => Ok(Step::Whole(Call::Pulse(number))),
     }
 }
 
 // One byte more of a record.
-fn take_byte(partial: Partial, byte: u8) -> Step
-    requires { HalfRead partial }
-    ensures { result ≡ step_of partial byte }
+fn take_byte(partial: Partial, byte: u8) -> Result<Step, StringRefusal>
+    ensures { step_by result ≡ step_of partial byte }
 {
-    let stage = partial.stage;
-    let groups = partial.groups;
-    let group = next_group(groups as u32, partial.value, byte as u32);
-    match group {
-        Group::More(value) => Step::More(Partial {
-            stage: stage,
-            groups: groups + 1,
-            value: value,
-        }),
-        Group::Last(number) => take_number(stage, number),
-        Group::Refused(refusal) => Step::Refused(refusal),
+    match next_group(partial, byte)? {
+        Group::More(value) => Ok(Step::More(Partial {
+            groups: partial.groups + 1,
+            value,
+            ..partial
+        })),
+        Group::Last(number) => take_number(partial.stage, number),
     }
 }
 
 // The record that stands at an index of a string.
-pub fn record_at(string: &[u8], at: usize) -> Found
-    ensures { result ≡ record_at string.now at }
+pub fn record_at(string: &[u8], at: usize) -> Result<Option<Found>, StringRefusal>
+    ensures { found_by result ≡ record_at string.now at }
 {
     if string.len() <= at {
-        return Found::End;
+        return Ok(None);
     }
-    let mut partial = begin(Stage::Kind);
-    let mut i = at;
-    while i < string.len() {
-        let next = take_byte(partial, string[i]);
-        i += 1;
-        match next {
-            Step::More(more) => {
-                partial = more;
+    let mut partial = Partial::begun(Stage::Kind);
+    let rest = &string[at..];
+    for (i, byte) in rest.iter().enumerate() {
+        match take_byte(partial, *byte)? {
+            Step::More(more) => partial = more,
+            Step::Whole(call) => {
+                let next = at + i + 1;
+                return Ok(Some(Found { call, next }));
             }
-            Step::Whole(call) => return Found::Record(call, i),
-            Step::Refused(refusal) => return Found::Refused(refusal),
         }
     }
-    Found::Refused(STRING_ENDS)
+    Err(StringRefusal::StringEnds)
 }

@@ -13,7 +13,8 @@ use Rattle.strings.specs.Types.{Group, Stage, Kind, WriteAddress, WriteByte, Rea
 use Rattle.strings.specs.Group as group
 use Rattle.strings.specs.Step.{More, Whole, Refused}
 use Rattle.strings.specs.Number.{group_of}
-use Rattle.strings.specs.Record.{begun, number_of, group_taken, step_of, HalfRead}
+use Rattle.strings.specs.Partial.{HalfRead}
+use Rattle.strings.specs.Record.{begun, number_of, group_taken, step_of}
 use Rattle.strings.proofs.Stages.{by_kind}
 
 -- ---- a number

@@ -91,17 +91,13 @@ Seen k acc byte (More value) = (128 ≤ byte) × (k ≡ 4 → ⊥) × (value ≡
 Seen k acc byte (Last n) = (byte < 128) × (0 < k → 0 < byte) × (n ≡ acc + byte * 2 ^ (7 * k))
 Seen k acc byte (Refused refusal) = Unit {0}
 
-not-both : (a b : Bool) → (a && b) ≡ false → a ≡ true → b ≡ false
-not-both true b e h = e
-not-both false b e h = absurd (false≢true h)
-
 seen : (k acc byte : ℕ) → Seen k acc byte (group_of k acc byte)
 unfolding group_of
 seen k acc byte =
     choice P (eqb k 4 && ltb 15 byte) _ _ (λ _. tt) (λ fifth. choice P (ltb 0 k && eqb byte 0) _ _ (λ _. tt) (λ first. choice P (ltb byte 128) _ _
     (λ h. let low = ltb-true byte 128 h in let m : byte % 128 ≡ byte = omega arith in
-    (low, (λ some. not-zero (eqb-false byte 0 (not-both (ltb 0 k) (eqb byte 0) first (lt-ltb 0 k some)))), rw m refl))
-    (λ h. let high = ltb-false byte 128 h in (high, (λ is. below-16 high (not-both (eqb k 4) (ltb 15 byte) fifth (eq-eqb k 4 is))), refl))))
+    (low, (λ some. not-zero (eqb-false byte 0 (rw (lt-ltb 0 k some) at first))), rw m refl))
+    (λ h. let high = ltb-false byte 128 h in (high, (λ is. below-16 high (rw (eq-eqb k 4 is) at fifth)), refl))))
   where
     P : Group → Type 0
     P = Seen k acc byte

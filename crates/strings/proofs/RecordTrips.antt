@@ -1,6 +1,6 @@
 -- A record is read back as it was written, and only what is written is read.
 use Prim.Native.Nat.{ℕ, zero, suc, ◌+◌, ◌/◌, ◌%◌, ◌^◌, ◌≤◌}
-use mathlib.Core.Path.{◌≡◌, refl, sym, ap, ◌∙◌, subst}
+use mathlib.Core.Path.{◌≡◌, refl, sym, ap, ◌∙◌}
 use mathlib.Core.Bool.{Bool, true, false, false≢true}
 use mathlib.Core.List.{List, [], ◌∷◌, ◌++◌, append_assoc, append-nil}
 use native.Mathlib.Omega.{arith}
@@ -8,6 +8,8 @@ use lib.Dec.{ltb, eqb}
 use lib.ListN.{length, length-append}
 use borrow.Author.Tests.{lt-ltb, ltb-true, eqb-true, eqb-false}
 use Rattle.std.specs.Prelude.{if◌then◌else◌}
+use Rattle.std.proofs.lemmas.Grind.{flat_map-append}
+use Rattle.std.proofs.lemmas.List.Folds.{list_all-append}
 use Rattle.rules.specs.Basics.{flag}
 use Rattle.rules.specs.declared.Call.TheVariants as call
 use Rattle.rules.proofs.Tests.{choice, and_left, and_right}
@@ -154,10 +156,7 @@ number-has PulseChannel n = refl
 
 numbers-append : (a b : List ℕ) (rest : List ℕ) → numbers_bytes (a ++ b) ++ rest ≡ numbers_bytes a ++ (numbers_bytes b ++ rest)
 unfolding numbers_bytes
-numbers-append [] b rest = refl
-numbers-append (n ∷ a) b rest =
-    append_assoc (number_bytes n) (numbers_bytes (a ++ b)) rest ∙ ap (λ x. number_bytes n ++ x) (numbers-append a b rest) ∙
-    sym (append_assoc (number_bytes n) (numbers_bytes a) (numbers_bytes b ++ rest))
+numbers-append a b rest = rw (flat_map-append, append_assoc)
 
 one_number : (n : ℕ) (rest : List ℕ) → numbers_bytes (n ∷ []) ++ rest ≡ number_bytes n ++ rest
 unfolding numbers_bytes
@@ -166,10 +165,6 @@ one_number n rest = ap (λ x. x ++ rest) (append-nil (number_bytes n))
 number-long : (n : ℕ) → 1 ≤ length (number_bytes n)
 unfolding number_bytes bytes_within
 number-long n = choice (λ (x : List ℕ). 1 ≤ length x) (ltb n 128) _ _ (λ _. omega arith) (λ _. omega arith)
-
-below-after : (a b : List ℕ) → below 256 (a ++ b) ≡ true → below 256 b ≡ true
-below-after [] b h = h
-below-after (byte ∷ a) b h = below-after a b (and_right (ltb byte 256) _ h)
 
 abbrev order_in : Front → Order
 order_in (whole c rest) = order_of c
@@ -201,7 +196,7 @@ module _ (c : Call) (rest : List ℕ) where
           let spelled = (number_read string small n left is).0 in
           let long : length string ≡ length (number_bytes n) + length left = ap length spelled ∙ length-append (number_bytes n) left in
           let fewer : length left ≤ k = omega (arith, long, number-long n, fits) in
-          let bytes : below 256 left ≡ true = below-after (number_bytes n) left (subst (λ (x : List ℕ). below 256 x ≡ true) spelled small) in
+          let bytes : below 256 left ≡ true = and_right _ _ (sym (list_all-append _ (number_bytes n) left) ∙ ap (below 256) (sym spelled) ∙ small) in
           ap (λ x. numbers_bytes (earlier stage) ++ x) (spelled ∙ sym (one_number n left)) ∙ sym (numbers-append (earlier stage) (n ∷ []) left) ∙
           by-step k shorter stage n left fewer bytes (number_of stage n) (number-has stage n) h
       by shorter (no_number refusal) is h = absurd (false≢true (ap is_whole h))

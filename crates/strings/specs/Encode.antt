@@ -1,5 +1,6 @@
 -- A record as bytes: "groups of seven bits, low group first, top bit set on all but the last, shortest form only".
-use Rattle.std.specs.Prelude.{ℕ, zero, suc, ◌+◌, ◌/◌, ◌%◌, List, [], ◌∷◌, ◌++◌, ltb, if◌then◌else◌}
+use Rattle.std.specs.Prelude.{ℕ, zero, suc, ◌+◌, ◌/◌, ◌%◌, List, [], ◌∷◌, ltb, if◌then◌else◌}
+use Rattle.std.specs.List.{flat_map}
 use Rattle.rules.specs.Basics.{flag}
 use Rattle.rules.specs.declared.Call.TheVariants as call
 use Rattle.strings.specs.Types.{Call, Order}
@@ -16,8 +17,7 @@ unfoldable pub number_bytes : ℕ → List ℕ
 number_bytes n = bytes_within 5 n
 
 unfoldable pub numbers_bytes : List ℕ → List ℕ
-numbers_bytes [] = []
-numbers_bytes (n ∷ numbers) = number_bytes n ++ numbers_bytes numbers
+numbers_bytes numbers = flat_map number_bytes numbers
 
 -- the numbers of a record: its kind, and what the kind asks for
 abbrev pub numbers_of : Order → List ℕ

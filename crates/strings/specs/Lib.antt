@@ -1,3 +1,4 @@
+pub mod Partial
 pub mod Group
 pub mod Step
 pub mod Found

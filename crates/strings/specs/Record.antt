@@ -1,6 +1,6 @@
 -- A record of an order string, byte by byte: "Kinds: 0 write (address, value), 1 read (address), 2 ticks (n), 3 tachometer (channel,
 -- count), 4 pin (0 low, 1 high)", since K6 "kind 5 (even address, word)", and since K7 "kind 6 (channel)".
-use Rattle.std.specs.Prelude.{ℕ, ◌+◌, ◌*◌, ◌^◌, ◌≤◌, ◌<◌, ltb, eqb, if◌then◌else◌}
+use Rattle.std.specs.Prelude.{ℕ, ◌+◌, ltb, eqb, if◌then◌else◌}
 use Rattle.rules.specs.declared.Call.TheVariants.{Write, Read, Ticks, Tachometer, Pin, WriteWord, Pulse}
 use Rattle.strings.specs.Types.{Group, Stage, Kind, WriteAddress, WriteByte, ReadAddress, TickCount, ResultChannel, ResultCount, PinLevel, WordAddress, WordValue, PulseChannel, Partial, Step}
 use Rattle.strings.specs.Group as group
@@ -76,8 +76,3 @@ group_taken p (group.Refused refusal) = Refused refusal
 -- one step a byte: what a byte makes of part of a record
 unfoldable pub step_of : Partial → ℕ → Step
 step_of p byte = group_taken p (group_of p.groups p.value byte)
-
--- part of a record holds at most four groups, worth no more than they can be
-pub record HalfRead (p : Partial) : Type 0 where
-  pub few : p.groups ≤ 4
-  pub low : p.value < 2 ^ (7 * p.groups)

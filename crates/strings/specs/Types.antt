@@ -6,7 +6,7 @@ pub use Rattle.rules.specs.Types.{ReadAnswer}
 pub use Rattle.rules.specs.declared.Call.{Call}
 pub use Rattle.strings.specs.declared.Stage.{Stage}
 pub use Rattle.strings.specs.declared.Stage.TheVariants.{Kind, WriteAddress, WriteByte, ReadAddress, TickCount, ResultChannel, ResultCount, PinLevel, WordAddress, WordValue, PulseChannel}
-pub use Rattle.strings.specs.declared.Partial.{Partial}
+pub use Rattle.strings.specs.Partial.{Partial}
 pub use Rattle.strings.specs.declared.order.Order.{Order}
 pub use Rattle.strings.specs.Group.{Group}
 pub use Rattle.strings.specs.Step.{Step}

@@ -3,10 +3,12 @@
 
 mod kind;
 mod order;
+mod partial;
 mod refusal;
 
 pub use kind::Kind;
 pub use order::Order;
+pub use partial::Partial;
 pub use refusal::{RunRefusal, StringRefusal};
 use rules::{Call, State};
 
@@ -31,14 +33,6 @@ pub enum Stage {
     WordAddress,
     WordValue(u32),
     PulseChannel,
-}
-
-// What has been read of a record: the stage, and of its number so many groups, and what they are worth.
-#[derive(Clone, Copy)]
-pub struct Partial {
-    pub stage: Stage,
-    pub groups: u8,
-    pub value: u32,
 }
 
 // What a byte makes of a record: more is to come, or it is whole.

@@ -1,10 +1,6 @@
 -- Up to the loop's index, the bytes are those of part of a record.
-use Rattle.std.proofs.Common.{length, ◌-◌}
 use Rattle.records.proofs.Index.{ReadTo}
 use Rattle.records.proofs.record.record_at.Given as goal
 
 abbrev pub invariant-loop-i : goal.invariant-loop-i
 invariant-loop-i l = ReadTo l.string l.at l.partial l.i
-
-abbrev pub decreases-loop-i : goal.decreases-loop-i
-decreases-loop-i l = length l.string - l.i
