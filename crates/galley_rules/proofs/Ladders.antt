@@ -8,18 +8,17 @@ use native.Mathlib.Omega.{arith}
 use lib.Dec.{eqb, ltb}
 use lib.IntN.{ℤ}
 use lib.ListN.{length, take, drop}
-use lib.Signed.{lt_z}
-use borrow.Author.Tests.{eq-eqb, ne_eqb, eqb-true, lt-ltb, le-ltb}
+use borrow.Author.Tests.{eq-eqb, eqb-true, lt-ltb, le-ltb}
 use Rattle.std.specs.Prelude.{if◌then◌else◌}
 use Rattle.rules.specs.Calls.{accepted, state_not_valid}
 use Rattle.rules.specs.Valid.{valid_of}
 use Rattle.rules.specs.Make.{after_each}
 use Rattle.rules.proofs.Tests.{by-test, and_left, and_right}
-use Rattle.galley_rules.specs.Types.{State, Galley, SampleAnswer}
+use Rattle.galley_rules.specs.Types.{State, Galley}
 use Rattle.galley_rules.specs.Temperature.{in_range}
-use Rattle.galley_rules.specs.Galley.{temperature_out_of_range, with_sample, valid_galley}
+use Rattle.galley_rules.specs.Galley.{temperature_out_of_range, valid_galley}
 use Rattle.galley_rules.specs.Table.{no_table, are_tables, in_force}
-use Rattle.galley_rules.specs.Sample.{sample_refusal, sample_row, sample_calls, sample_answer, sample_of}
+use Rattle.galley_rules.specs.Sample.{sample_refusal, sample_calls, sample_of}
 use Rattle.galley_rules.specs.Span.{rows_outside, span_refusal, span_rows}
 
 -- both tables have 48 bytes
@@ -49,17 +48,6 @@ module _ (g : Galley) (s : State) (t : ℤ) (normal quiet : List ℕ) where
       (valid_galley g ≡ true) × (valid_of s ≡ true) × (are_tables normal quiet ≡ true) × (in_range t ≡ true)
   unfolding sample_refusal
   sample-facts e = all-passed (valid_galley g) (valid_of s) (are_tables normal quiet) (in_range t) e
-
-  pub accepted-sample : (r : SampleAnswer) → sample_refusal g s t normal quiet ≡ accepted →
-      r ≡ sample_answer accepted (lt_z g.high t) (lt_z g.over t) (with_sample g (sample_row g s t normal quiet) t) (after_each s (sample_calls g s t normal quiet)) →
-      r ≡ sample_of g s t normal quiet
-  unfolding sample_of
-  accepted-sample r fine e = rw (eq-eqb _ _ fine) e
-
-  pub refused-sample : (r : SampleAnswer) (refusal : ℕ) → sample_refusal g s t normal quiet ≡ refusal → (refusal ≡ accepted → ⊥) →
-      r ≡ sample_answer refusal false false g s → r ≡ sample_of g s t normal quiet
-  unfolding sample_of
-  refused-sample r refusal is other e = rw (is, ne_eqb refusal accepted other) e
 
   pub accepted-state : sample_refusal g s t normal quiet ≡ accepted → (sample_of g s t normal quiet).state ≡ after_each s (sample_calls g s t normal quiet)
   unfolding sample_of
