@@ -2,42 +2,26 @@
 #![tactic(auto)]
 
 ghost use Rattle.std.specs.Prelude.{◌≡◌};
-ghost use Rattle.rules.specs.FanFail.{fan_fail_answer, fan_fail_of};
+ghost use Rattle.rules.specs.FanFail.{fan_fail_by, fan_fail_of};
 
 use device::duty::fault_byte;
 use device::valid::valid;
-use rules::{ACCEPTED, FanFailAnswer, STATE_NOT_VALID, State};
+use rules::{Failed, Refusal, State};
 
-fn answered(refusal: u8, asserted: bool, failed: u32, lowest: u32, state: State) -> FanFailAnswer
-    ensures { result ≡ fan_fail_answer refusal asserted failed lowest state }
-{
-    FanFailAnswer {
-        refusal: refusal,
-        asserted: asserted,
-        failed: failed,
-        lowest: lowest,
-        state: state,
-    }
-}
-
-// Whether FAN_FAIL is asserted, how many unmasked channels have failed, and the lowest of them.
-pub fn fan_fail(state: State) -> FanFailAnswer
-    ensures equal { result ≡ fan_fail_of state }
-    ensures unchanged { result.state ≡ state }
+// The unmasked channels that have failed, if there are any: then FAN_FAIL is asserted.
+#[tactic(auto, unfolding(rules::specs::FanFail::fan_fail_of))]
+pub fn fan_fail(state: State) -> Result<Option<Failed>, Refusal>
+    ensures { fan_fail_by state result ≡ fan_fail_of state }
 {
     if !valid(state) {
-        return answered(STATE_NOT_VALID, false, 0, 0, state);
+        return Err(Refusal::StateNotValid);
     }
-    let channels = state.channels;
-    let failed = fault_byte(channels) & !state.registers.mask1;
+    let failed = fault_byte(state.channels) & !state.registers.mask1;
     if failed == 0 {
-        return answered(ACCEPTED, false, 0, 0, state);
+        return Ok(None);
     }
-    answered(
-        ACCEPTED,
-        true,
-        u8::count_ones(failed),
-        u8::trailing_zeros(failed) + 1,
-        state,
-    )
+    Ok(Some(Failed {
+        count: failed.count_ones(),
+        lowest: failed.trailing_zeros() + 1,
+    }))
 }

@@ -10,18 +10,17 @@ use lib.IntN.{pos}
 use lib.ListN.{length, get_or, replicate, length-map}
 use borrow.Author.Tests.{ltb-true}
 use lib.Pow.{pow-add, pow_pos, pow_mono, shl_lt}
-use lib.Ieee.{Float, nan, inf, fin, binary64, up, down, unlike, round, of_int, of_bits, div}
+use lib.Ieee.{Float, nan, inf, fin, binary64, up, down, unlike, round, of_int, div}
 use lib.Ieee.Back.{round_whole}
 use lib.Ieee.Digits.{back}
 use lib.Ieee.Exact.{HasValue, round_exact}
 use lib.Ieee.Fits.{down_pos}
 use lib.Ieee.Scale.{round_same}
-use Rattle.laws.proofs.Types.{State, ReadingAnswer}
+use Rattle.laws.proofs.Types.{State, Reading, ReadingAnswer, Ok, Err, StateNotValid}
 use Rattle.rules.specs.State.{blank}
 use Rattle.rules.specs.Duty.{conditions_of, output_duty}
 use Rattle.rules.specs.Valid.{valid_of}
-use Rattle.rules.specs.Calls.{accepted, state_not_valid}
-use Rattle.rules.specs.Reading.{over512, Exactly, share_of, clock_read, shares_read, reading_of, ExactReading}
+use Rattle.rules.specs.Reading.{over512, Exactly, share_of, clock_read, shares_read, reading_of, reading_by, ExactReading}
 use Rattle.rules.proofs.Tests.{by-test, choice, all-below}
 use Rattle.laws.proofs.Each.{map_at}
 use Rattle.laws.proofs.Duty.{output-duty-lt}
@@ -93,33 +92,17 @@ reading-exact s h six =
           (over-512-exact _ (shares-small s i six l));
     }
 
--- ---- the promise of the call, from what its test told
+-- ---- what the call gives, from what its test told
 
-pub zero-over-512 : of_bits binary64 0 ≡ over512 0
-unfolding over512 of_bits round
-zero-over-512 = refl
+pub reading-refused : (s : State) → valid_of s ≡ false → reading_by s (Err StateNotValid) ≡ reading_of s
+unfolding reading_of clock_read shares_read
+reading-refused s bad = rw bad refl
 
-module _ (s : State) (clock-fits : s.timer.clock < 2 ^ 32) (six : length s.channels ≡ 6) where
-  abbrev pub ReadingPromise : ReadingAnswer → Type 0
-  ReadingPromise r = (r ≡ reading_of s) × (ExactReading s r.reading × (r.state ≡ s))
+pub reading-given : (s : State) (r : Reading) → valid_of s ≡ true → r.seconds ≡ over512 s.timer.clock →
+    r.shares ≡ map (λ ch. over512 (share_of (output_duty (conditions_of s) ch))) s.channels → reading_by s (Ok r) ≡ reading_of s
+unfolding reading_of clock_read shares_read
+reading-given s r good seconds shares = rw (good, map-map, sym seconds, sym shares) refl
 
-  promised : (r : ReadingAnswer) → r ≡ reading_of s → ReadingPromise r
-  unfolding reading_of
-  promised r e = (e, (rw e (reading-exact s clock-fits six), rw e))
-
-  pub reading-refused : (r : ReadingAnswer) → valid_of s ≡ false →
-      r ≡ record { refusal = state_not_valid; reading = record { seconds = over512 0; shares = replicate 6 (over512 0) }; state = s } → ReadingPromise r
-  unfolding reading_of clock_read shares_read
-  reading-refused r no-good e = promised r (rw no-good e)
-
-  pub reading-given : (r : ReadingAnswer) → valid_of s ≡ true →
-      r ≡ record {
-        refusal = accepted;
-        reading = record {
-          seconds = over512 s.timer.clock;
-          shares = map (λ ch. over512 (share_of (output_duty (conditions_of s) ch))) s.channels;
-        };
-        state = s;
-      } → ReadingPromise r
-  unfolding reading_of clock_read shares_read
-  reading-given r good e = promised r (rw (good, map-map) e)
+-- and what is the answer of the rules is exact
+pub told-exact : (s : State) (r : ReadingAnswer) → s.timer.clock < 2 ^ 32 → length s.channels ≡ 6 → r ≡ reading_of s → ExactReading s r.reading
+told-exact s r clock-fits six e = rw e (reading-exact s clock-fits six)

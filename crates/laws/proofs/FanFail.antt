@@ -10,14 +10,14 @@ use lib.Count.{ones, count_trailing_zeros}
 use lib.Dec.{eqb}
 use lib.ListN.{length}
 use borrow.Author.Tests.{eqb-true, ne_eqb}
-use Rattle.laws.proofs.Types.{State, FanFailAnswer}
+use Rattle.laws.proofs.Types.{State}
 use Rattle.std.specs.Prelude.{if◌then◌else◌}
 use Rattle.rules.specs.Basics.{some, bit}
 use Rattle.rules.specs.Registers.{mask_kept}
 use Rattle.rules.specs.Duty.{fault_byte}
 use Rattle.rules.specs.FanFail.{failed, how_many, lowest_from, fan_fail_answer, fan_fail_of}
 use Rattle.rules.specs.Valid.{valid_of}
-use Rattle.rules.specs.Calls.{accepted, state_not_valid}
+use Rattle.rules.specs.Calls.{accepted}
 use Rattle.rules.proofs.Tests.{and_left, and_right, same, all_below, all-below}
 use Rattle.laws.proofs.Each.{map-alike}
 use Rattle.laws.proofs.Faults.{fault-bit, fault-byte-small}
@@ -70,31 +70,19 @@ counted s hf hm =
     let row = all-below 64 (λ f. all_below 64 (bytes_test f)) bytes_counted faults hf in
     rw (failed-bits s) (test-counted _ _ (all-below 64 (bytes_test faults) row mask hm))
 
--- the promise of the call, from what its tests told
+-- what the query gives of a valid state, by its byte: where it is 0, and where it is x
+module _ (s : State) (v : valid_of s ≡ true) (six : length s.channels ≡ 6) where
+  told : Counted (unmasked (fault_byte s.channels) s.registers.mask1) (failed s)
+  told =
+      let mask = s.registers.mask1 in
+      let kept = eqb-true (mask_kept mask) mask (registers-parts s.registers (parts s v).registers).mask1 in
+      counted s (fault-byte-small s.channels (omega (arith, six))) (omega (arith, kept))
 
-module _ (s : State) where
-  abbrev pub FanFailPromise : FanFailAnswer → Type 0
-  FanFailPromise r = (r ≡ fan_fail_of s) × (r.state ≡ s)
+  pub fan-fail-none : unmasked (fault_byte s.channels) s.registers.mask1 ≡ 0 → fan_fail_answer accepted false 0 0 s ≡ fan_fail_of s
+  unfolding fan_fail_of ones lib.Count.ones_in
+  fan-fail-none none = rw (v, sym told.asserted, sym told.many, sym told.lowest, none) refl
 
-  pub fan-fail-refused : (r : FanFailAnswer) → valid_of s ≡ false → r ≡ fan_fail_answer state_not_valid false 0 0 s → FanFailPromise r
+  pub fan-fail-some : (x : ℕ) → x ≡ unmasked (fault_byte s.channels) s.registers.mask1 → (x ≡ 0 → ⊥) →
+      fan_fail_answer accepted true (ones x) (count_trailing_zeros 8 x + 1) s ≡ fan_fail_of s
   unfolding fan_fail_of
-  fan-fail-refused r no-good e = (rw no-good e, rw e)
-
-  module _ (v : valid_of s ≡ true) (six : length s.channels ≡ 6) where
-    told : Counted (unmasked (fault_byte s.channels) s.registers.mask1) (failed s)
-    told =
-        let mask = s.registers.mask1 in
-        let kept = eqb-true (mask_kept mask) mask (registers-parts s.registers (parts s v).registers).mask1 in
-        counted s (fault-byte-small s.channels (omega (arith, six))) (omega (arith, kept))
-
-    pub fan-fail-none : (r : FanFailAnswer) → unmasked (fault_byte s.channels) s.registers.mask1 ≡ 0 →
-        r ≡ fan_fail_answer accepted false 0 0 s → FanFailPromise r
-    unfolding fan_fail_of ones lib.Count.ones_in
-    fan-fail-none r none e =
-        (rw (v, sym told.asserted, sym told.many, sym told.lowest, none) e, rw e)
-
-    pub fan-fail-some : (r : FanFailAnswer) (x : ℕ) → x ≡ unmasked (fault_byte s.channels) s.registers.mask1 → (x ≡ 0 → ⊥) →
-        r ≡ fan_fail_answer accepted true (ones x) (count_trailing_zeros 8 x + 1) s → FanFailPromise r
-    unfolding fan_fail_of
-    fan-fail-some r x is some_left e =
-        (rw (v, sym told.asserted, sym told.many, sym told.lowest, sym is, ne_eqb x 0 some_left) e, rw e)
+  fan-fail-some x is some_left = rw (v, sym told.asserted, sym told.many, sym told.lowest, sym is, ne_eqb x 0 some_left) refl

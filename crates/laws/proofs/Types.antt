@@ -8,7 +8,7 @@ pub use Rattle.rules.specs.declared.State.{State}
 pub use Rattle.rules.specs.declared.Conditions.{Conditions}
 pub use Rattle.std.specs.Prelude.{Option, None, Some, Result, Ok, Err}
 pub use Rattle.rules.specs.declared.refusal.Refusal.{Refusal}
-pub use Rattle.rules.specs.declared.refusal.Refusal.TheVariants.{SpeedOutOfRange}
+pub use Rattle.rules.specs.declared.refusal.Refusal.TheVariants.{StateNotValid, SpeedOutOfRange}
 pub use Rattle.rules.specs.declared.BoxRegister.{BoxRegister}
 pub use Rattle.rules.specs.declared.BoxRegister.TheVariants.{Control, Frequency, Mask2, Mask1, Options}
 pub use Rattle.rules.specs.declared.ChannelRegister.{ChannelRegister}
@@ -22,6 +22,7 @@ pub use Rattle.rules.specs.Types.{ReadAnswer}
 pub use Rattle.rules.specs.Types.{FanFailAnswer}
 pub use Rattle.rules.specs.declared.Speed.{Speed}
 pub use Rattle.rules.specs.declared.Speed.TheVariants.{Rpm, Stopped, TooFast}
+pub use Rattle.rules.specs.declared.Reading.{Reading}
 pub use Rattle.rules.specs.Types.{ReadingAnswer}
 pub use Rattle.rules.specs.declared.Call.{Call}
 pub use Rattle.rules.specs.declared.Call.TheVariants.{Write, Read, Ticks, Tachometer, Pin, WriteWord, Pulse}

@@ -5,4 +5,4 @@ use Rattle.reading.proofs.over_512.Goals as goal
 
 pub returns : goal.returns
 unfolding lib.Ieee.of_bits
-returns c = divided-by-512 c.args.n (omega arith)
+returns c = rw c.from.ensures (divided-by-512 c.args.n (omega arith))
