@@ -11,7 +11,8 @@ use borrow.Author.Tests.{lt-ltb, le-ltb, ltb-true, le-leb, lt-leb, eq-eqb}
 use Rattle.rules.specs.Basics.{every}
 use Rattle.rules.proofs.Tests.{and_left, and_right}
 use Rattle.console_text.specs.Number.{digit_of, are_digits}
-use Rattle.console_hex.specs.Bytes.{hex_digit, hex_pairs, hex_of, are_pairs, pairs_in, is_dash, bytes, bytes_of}
+use Rattle.console_hex.specs.Bytes.{hex_digit, hex_pairs, hex_of, are_pairs, pairs_in, is_dash, bytes_of}
+use Rattle.std.specs.Prelude.{Some}
 
 digit-back : (n : ℕ) → n < 16 → digit_of (hex_digit n) ≡ n
 unfolding hex_digit digit_of
@@ -51,7 +52,7 @@ pairs-back (byte ∷ list) e =
     rw (digit-back (byte / 16) (omega (arith, small.0)), digit-back (byte % 16) (omega arith), whole, pairs-back list small.1)
 
 -- any list of bytes
-pub bytes_back : (list : List ℕ) → every (λ b. ltb b 256) list ≡ true → bytes_of (hex_of list) ≡ bytes list
+pub bytes_back : (list : List ℕ) → every (λ b. ltb b 256) list ≡ true → bytes_of (hex_of list) ≡ Some list
 unfolding bytes_of hex_of are_pairs is_dash
 bytes_back [] e = refl
 bytes_back (byte ∷ list) e =

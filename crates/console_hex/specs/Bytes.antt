@@ -1,9 +1,8 @@
 -- Bytes as text: "A parameter that is bytes is hexadecimal digits in pairs, capital or small; `-` is the empty string of bytes.
 -- Printed bytes are small letters, `-` where there are none."
-use Rattle.std.specs.Prelude.{ℕ, ◌+◌, ◌*◌, ◌/◌, ◌%◌, Bool, ◌&&◌, List, [], ◌∷◌, ◌++◌, length, get_or, eqb, ltb, if◌then◌else◌}
+use Rattle.std.specs.Prelude.{ℕ, ◌+◌, ◌*◌, ◌/◌, ◌%◌, Bool, ◌&&◌, List, [], ◌∷◌, length, get_or, eqb, ltb, if◌then◌else◌, Option, Some, None, option_map, unwrap_or}
+use Rattle.std.specs.List.{flat_map}
 use Rattle.console_text.specs.Number.{digit_of, are_digits}
-use Rattle.console_hex.specs.declared.Spelled.{Spelled}
-use Rattle.console_hex.specs.declared.Spelled.TheVariants as spelled
 
 -- ---- printed
 
@@ -15,8 +14,7 @@ abbrev pub hex_pair : ℕ → List ℕ
 hex_pair byte = hex_digit (byte / 16) ∷ hex_digit (byte % 16) ∷ []
 
 unfoldable pub hex_pairs : List ℕ → List ℕ
-hex_pairs [] = []
-hex_pairs (byte ∷ bytes) = hex_pair byte ++ hex_pairs bytes
+hex_pairs bytes = flat_map hex_pair bytes
 
 unfoldable pub hex_of : List ℕ → List ℕ
 hex_of [] = 45 ∷ []
@@ -37,19 +35,13 @@ pairs_in (high ∷ low ∷ word) = (digit_of high * 16 + digit_of low) ∷ pairs
 unfoldable pub is_dash : List ℕ → Bool
 is_dash word = eqb (length word) 1 && eqb (get_or word 0 0) 45
 
--- what a word is as bytes
-pub data Bytes : Type 0 where
-  bytes : List ℕ → Bytes
-  not_bytes : Bytes
-
-unfoldable pub bytes_of : List ℕ → Bytes
-bytes_of word = if are_pairs word then bytes (pairs_in word) else if is_dash word then bytes [] else not_bytes
+-- what a word is as bytes, if it is any
+unfoldable pub bytes_of : List ℕ → Option (List ℕ)
+bytes_of word = if are_pairs word then Some (pairs_in word) else if is_dash word then Some [] else None
 
 -- how many they are; and which, none of a word that is no bytes
-abbrev pub count_of : Bytes → Spelled
-count_of (bytes list) = spelled.Bytes (length list)
-count_of not_bytes = spelled.NotBytes
+abbrev pub count_of : Option (List ℕ) → Option ℕ
+count_of bytes = option_map length bytes
 
-abbrev pub list_of : Bytes → List ℕ
-list_of (bytes list) = list
-list_of not_bytes = []
+abbrev pub list_of : Option (List ℕ) → List ℕ
+list_of bytes = unwrap_or bytes []

@@ -1,6 +1,7 @@
 -- What a word is as a number: "Numbers are decimal, or hexadecimal after `0x` or `0X` (at least one digit), from 0 to
 -- 4,294,967,295; leading zeros are allowed".
 use Rattle.std.specs.Prelude.{ℕ, ◌+◌, ◌-◌, ◌*◌, ◌^◌, Bool, true, ◌&&◌, ◌||◌, List, [], ◌∷◌, get_or, drop, eqb, leb, ltb, if◌then◌else◌, Option, Some, None, Result, Ok, Err}
+use Rattle.std.specs.List.{list_all}
 use Rattle.console_text.specs.declared.number.NumberError.{NumberError}
 use Rattle.console_text.specs.declared.number.NumberError.TheVariants.{TooLarge, NotNumber}
 
@@ -26,8 +27,7 @@ digit_in byte = if ltb (digit_of byte) 16 then Some (digit_of byte) else None
 
 -- every byte is a digit of the base
 unfoldable pub are_digits : ℕ → List ℕ → Bool
-are_digits base [] = true
-are_digits base (byte ∷ text) = ltb (digit_of byte) base && are_digits base text
+are_digits base text = list_all (λ byte. ltb (digit_of byte) base) text
 
 -- the number that digits spell after digits that spelled n: each further digit makes it the base times as much, and adds its own
 unfoldable pub spelled_after : ℕ → ℕ → List ℕ → ℕ

@@ -1,5 +1,5 @@
 // A word as a number: decimal, or hexadecimal after `0x`.
-ghost use Rattle.std.specs.Prelude.{◌≡◌, ◌≤◌};
+ghost use Rattle.std.specs.Prelude.{◌≡◌, ◌≤◌, ◌<◌, IfSome};
 ghost use Rattle.console_text.specs.Number.{digit_in, in_base, number_of};
 
 // Why a word is no number.
@@ -15,7 +15,8 @@ const LIMIT: u64 = 0x1_0000_0000;
 
 // The hexadecimal digit that a byte is.
 pub fn digit(byte: u8) -> Option<u32>
-    ensures { result ≡ digit_in byte }
+    ensures value { result ≡ digit_in byte }
+    ensures below { IfSome result (λ digit. digit < 16) }
 {
     char::from(byte).to_digit(16)
 }

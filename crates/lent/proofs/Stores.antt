@@ -54,6 +54,9 @@ pub puts-append : {before between after : Page} {first second : List ℕ} →
     Puts first before between → Puts second between after → Puts (first ++ second) before after
 puts-append p q = record { put = put-append p.put q.put; same = q.same ∙ p.same }
 
+pub puts-nothing : (page : Page) → Puts [] page page
+puts-nothing page = record { put = record { stored = refl; index = omega arith }; same = refl }
+
 -- where there is room, the bytes stand from the index on, and the rest is as it was
 pub put-with-room : {at next : ℕ} {before after bytes : List ℕ} → Put bytes at before after next → at + length bytes ≤ length before →
     (after ≡ take at before ++ bytes ++ drop (at + length bytes) before) × (next ≡ at + length bytes)

@@ -2,5 +2,5 @@
 use Rattle.console_text.proofs.Digits.{digit-told}
 use Rattle.console_text.proofs.number.digit.Goals as goal
 
-pub returns : goal.returns
-returns c = digit-told c.args.byte c.to_digit.result (rw c.from.ensures at c.to_digit.ensures.value)
+pub returns-clause-value : goal.returns-clause-value
+returns-clause-value c = digit-told c.args.byte c.to_digit.result (rw c.from.ensures at c.to_digit.ensures.value)

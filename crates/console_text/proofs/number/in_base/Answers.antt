@@ -12,19 +12,19 @@ loop-byte-init c = (omega arith, begins c.args.base c.args.text.now (sym c.is_em
 pub returns-in_default : goal.returns-in_default
 returns-in_default c =
     let loop = c.loop-byte in
-    let digit = digit-some _ (sym c.digit.ensures ∙ c.in-Some.is) in
+    let digit = digit-some _ (sym c.digit.ensures.value ∙ c.in-Some.is) in
     sym (breaks-off c.args.base c.args.text.now loop.byte-index loop.number (omega arith) (omega arith)) ∙ loop.invariant.1
 
 pub returns-in_default-2 : goal.returns-in_default-2
 returns-in_default-2 c =
     let loop = c.loop-byte in
-    let none = digit-none _ (sym c.digit.ensures ∙ c.in_default.is) in
+    let none = digit-none _ (sym c.digit.ensures.value ∙ c.in_default.is) in
     sym (breaks-off c.args.base c.args.text.now loop.byte-index loop.number (omega arith) (omega arith)) ∙ loop.invariant.1
 
 pub loop-byte-preserved : goal.loop-byte-preserved
 loop-byte-preserved c =
     let loop = c.loop-byte in
-    let digit = digit-some _ (sym c.digit.ensures ∙ c.in-Some.is) in (
+    let digit = digit-some _ (sym c.digit.ensures.value ∙ c.in-Some.is) in (
       omega (arith, c.min-number.ensures),
       rw (c.min-number.ensures, c.from.ensures, c.from-in-loop-byte.ensures)
           (sym (goes_on c.args.base c.args.text.now loop.byte-index (omega arith) loop.number (omega arith) digit c.if-digit-base.true) ∙ loop.invariant.1),
