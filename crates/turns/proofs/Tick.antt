@@ -1,62 +1,57 @@
 -- One tick as a loop makes it: the first n have had their turn.
-use Prim.Native.Nat.{ℕ, zero, suc, ◌+◌, ◌≤◌, ◌<◌}
-use mathlib.Core.Path.{◌≡◌, refl, sym, ◌∙◌, ap, ap₂}
-use mathlib.Core.List.{List, [], ◌∷◌}
-use native.Mathlib.Numerals.{add-one}
+use Prim.Native.Nat.{ℕ, ◌+◌, ◌<◌, ◌≤◌}
+use mathlib.Core.Path.{◌≡◌, sym, ◌∙◌, ap, ap₂}
+use mathlib.Core.Bool.{true, false}
+use mathlib.Core.List.{List, [], ◌∷◌, ◌++◌}
 use native.Mathlib.Omega.{arith}
-use lib.ListN.{length, get_or, set, take}
-use lib.Seq.{take_all}
-use Rattle.laws.proofs.Each.{map_same, Filled, filled_none, filled_more, filled-all}
-use Rattle.turns.specs.Types.{Waiter}
-use Rattle.turns.specs.Turns.{may_leave, turn, wait_then, turns_tick, wait_left, ticked}
+use Rattle.std.proofs.Common.{length, get_or, set, take, drop, append_assoc, append-nil, add-one, drop-cons, drop_of_length-le, length-set}
+use Rattle.std.proofs.Math.Seq.{take_all}
+use Rattle.std.proofs.lemmas.List.{take_more, take_more_set, drop-set-lt}
+use Rattle.turns.specs.Types.{Waiter, Left, Turns}
+use Rattle.turns.specs.Turns.{turns, may_leave, turn, wait_then, turns_tick, wait_left, ticked}
 
-module _ (clock past delay wait : ℕ) (ws : List Waiter) where
-  turns-long : (wait : ℕ) (ws : List Waiter) → length (turns_tick clock past delay wait ws) ≡ length ws
-  unfolding turns_tick
-  turns-long wait [] = refl
-  turns-long wait (w ∷ ws) = ap (λ n. suc n) (turns-long (wait_then (may_leave clock wait w.shift) delay wait) ws)
+module _ (clock past delay : ℕ) (begin : Turns) where
+  -- the others are as they were, and come to what they would have come to
+  pub record Turned (wait : ℕ) (ws : List Waiter) (n : ℕ) : Type 0 where
+    pub left : wait_left clock delay wait (drop n ws) ≡ wait_left clock delay begin.wait begin.waiters
+    pub next : take n ws ++ turns_tick clock past delay wait (drop n ws) ≡ turns_tick clock past delay begin.wait begin.waiters
+    pub long : length ws ≡ 6
 
-  -- one of them, at the wait that those before it leave; and the wait after it
-  turns_at : (wait : ℕ) (ws : List Waiter) (n : ℕ) (d : Waiter) → n < length ws →
-      get_or (turns_tick clock past delay wait ws) n d ≡ turn (may_leave clock (wait_left clock delay wait (take n ws)) (get_or ws n d).shift) past (get_or ws n d)
-  unfolding turns_tick wait_left
-  turns_at wait [] n d h = absurd (omega arith)
-  turns_at wait (w ∷ ws) zero d h = refl
-  turns_at wait (w ∷ ws) (suc n) d h = turns_at (wait_then (may_leave clock wait w.shift) delay wait) ws n d (omega arith)
+  module _ (wait : ℕ) (ws : List Waiter) (n : ℕ) (d : Waiter) (few : n < length ws) (v : Turned wait ws n) where
+    abbrev w : Waiter
+    w = get_or ws n d
 
-  wait-take : (wait : ℕ) (ws : List Waiter) (n : ℕ) (d : Waiter) → n < length ws →
-      wait_left clock delay wait (take (suc n) ws)
-      ≡ let now = wait_left clock delay wait (take n ws) in wait_then (may_leave clock now (get_or ws n d).shift) delay now
-  unfolding wait_left
-  wait-take wait [] n d h = absurd (omega arith)
-  wait-take wait (w ∷ ws) zero d h = refl
-  wait-take wait (w ∷ ws) (suc n) d h = wait-take (wait_then (may_leave clock wait w.shift) delay wait) ws n d (omega arith)
+    rest : drop n ws ≡ w ∷ drop (n + 1) ws
+    rest = rw add-one (drop-cons ws n d few)
 
-  abbrev after : List Waiter
-  after = turns_tick clock past delay wait ws
+    left_then : wait_left clock delay (wait_then (may_leave clock wait w) delay wait) (drop (n + 1) ws) ≡ wait_left clock delay begin.wait begin.waiters
+    unfolding wait_left
+    left_then = rw rest at v.left
 
-  pub record Turned (now : ℕ) (next : List Waiter) (n : ℕ) : Type 0 where
-    pub front : Filled (λ w. w) after next n
-    pub left : now ≡ wait_left clock delay wait (take n ws)
+    next_then : take n ws ++ turn (may_leave clock wait w) past w ∷ turns_tick clock past delay (wait_then (may_leave clock wait w) delay wait) (drop (n + 1) ws)
+        ≡ turns_tick clock past delay begin.wait begin.waiters
+    unfolding turns_tick
+    next_then = rw rest at v.next
 
-  pub turned_none : Turned wait ws 0
-  unfolding wait_left
-  turned_none = record { front = filled_none (λ w. w) after ws (sym (turns-long wait ws)); left = refl }
+    pub stays : may_leave clock wait w ≡ false → Turned wait ws (n + 1)
+    stays m =
+        record {
+          left = rw m at left_then;
+          next = rw (take_more ws n d few, append_assoc) (rw m at next_then);
+          long = v.long;
+        }
 
-  pub turned_more : (now : ℕ) (next : List Waiter) (n : ℕ) (d : Waiter) → Turned now next n → n < length ws →
-      let leaves = may_leave clock now (get_or ws n d).shift in
-      Turned (wait_then leaves delay now) (set next n (turn leaves past (get_or ws n d))) (n + 1)
-  turned_more now next n d v h =
-      record {
-        front =
-            filled_more (λ w. w) after next n _ d v.front (rw turns-long h)
-            (ap (λ x. turn (may_leave clock x (get_or ws n d).shift) past (get_or ws n d)) v.left ∙ sym (turns_at wait ws n d h));
-        left =
-            rw add-one
-            (ap (λ x. wait_then (may_leave clock x (get_or ws n d).shift) delay x) v.left ∙ sym (wait-take wait ws n d h));
-      }
+    pub leaves : may_leave clock wait w ≡ true → Turned delay (set ws n (Left past)) (n + 1)
+    leaves m =
+        let others = drop-set-lt (n + 1) ws n (Left past) (omega arith) in
+        record {
+          left = rw others (rw m at left_then);
+          next = rw (others, take_more_set ws n (Left past) few, append_assoc) (rw m at next_then);
+          long = length-set ws n (Left past) ∙ v.long;
+        }
 
-  pub turned-all : (now : ℕ) (next : List Waiter) (n : ℕ) → length ws ≤ n → Turned now next n → (now, next) ≡ ticked clock past delay wait ws
-  turned-all now next n h v =
-      ap₂ (λ w xs. (w, xs)) (v.left ∙ ap (wait_left clock delay wait) (take_all n ws h))
-      (filled-all (λ w. w) after next n (rw turns-long h) v.front ∙ map_same (λ w. w) (λ w. refl) after)
+  pub all-turned : (wait : ℕ) (ws : List Waiter) (n : ℕ) → 6 ≤ n → Turned wait ws n → turns wait ws ≡ ticked clock past delay begin
+  unfolding wait_left turns_tick
+  all-turned wait ws n h v =
+      let none : drop n ws ≡ [] = drop_of_length-le ws (omega (arith, v.long)) in
+      ap₂ turns (rw none at v.left) (sym (append-nil ws) ∙ ap (λ xs. xs ++ []) (sym (take_all n ws (omega (arith, v.long)))) ∙ (rw none at v.next))

@@ -2,16 +2,42 @@
 // that who may leave is decided apart from what a channel does then. specs/ says it tick by tick; here no loop counts ticks.
 #![tactic(auto)]
 
-ghost use Rattle.std.specs.Prelude.{◌≡◌, ◌-◌, ◌^◌, ◌≤◌, ◌<◌, max, min, ltb, if◌then◌else◌};
-ghost use Rattle.turns.specs.Turns.{may_leave, turn, wait_then, ticked, turns_after};
-ghost use Rattle.turns.specs.Departures.{leave_tick, first_leave};
+ghost use Rattle.std.specs.Prelude.{◌≡◌, ◌-◌, ◌^◌, ◌<◌};
+ghost use Rattle.turns.specs.Turns.{may_leave, period_of, ticked, fallen, turns_after};
+ghost use Rattle.turns.specs.Departures.{shortest, IsNext};
 
-// A channel by how it waits. The clocks at which it would leave are the multiples of 2 to the power `shift`, which is 0 to 7; with any
-// other number it does not wait. `waited` has the ticks that it waited before the one in which it left.
+mod period;
+
+pub use period::Period;
+
+// A channel by how it waits.
 #[derive(Clone, Copy)]
-pub struct Waiter {
-    pub shift: u8,
-    pub waited: u32,
+pub enum Waiter {
+    // The clocks at which it would leave are the multiples of its period.
+    Waits(Period),
+    // It does not wait, and did so for so many ticks before the one in which it left.
+    Left(u32),
+}
+
+impl Waiter {
+    fn period(self) -> Option<Period>
+        ensures { result ≡ period_of self }
+    {
+        match self {
+            Waiter::Waits(period) => Some(period),
+            Waiter::Left(_) => None,
+        }
+    }
+
+    #[tactic(auto, unfolding(crate::specs::Turns::may_leave))]
+    fn may_leave(self, wait: u16, clock: u64) -> bool
+        ensures { result ≡ may_leave clock wait self }
+    {
+        match self {
+            Waiter::Waits(period) => (wait == 0) & (period.ticks_to(clock) == 0),
+            Waiter::Left(_) => false,
+        }
+    }
 }
 
 // The shared wait, and the channels from 1 to 6.
@@ -25,150 +51,69 @@ pub struct Turns {
 pub fn fall(wait: u16, ticks: u32) -> u16
     ensures { result ≡ wait - ticks }
 {
-    if ticks < wait as u32 {
-        return wait - ticks as u16;
+    u32::from(wait).saturating_sub(ticks) as u16
+}
+
+impl Turns {
+    fn shortest(&self) -> Option<Period>
+        ensures { result ≡ shortest self.now.waiters }
+    {
+        self.waiters
+            .iter()
+            .filter_map(|waiter| waiter.period())
+            .min()
     }
-    0
-}
 
-fn power(shift: u8) -> u64
-    requires { shift < 8 }
-    ensures { (result ≡ 2 ^ shift) × (0 < result) × (result ≤ 128) }
-{
-    1u64 << shift as u32
-}
-
-// The ticks until the wait is over, and at least the one that comes.
-fn at_least_one(wait: u16) -> u64
-    ensures { result ≡ max wait 1 }
-{
-    if wait == 0 {
-        return 1;
+    // The next of so many ticks in which one leaves. The multiples of a period are multiples of each shorter one.
+    fn next_leave(&self, clock: u64, ticks: u32) -> Option<u32>
+        requires { clock < 2 ^ 33 }
+        ensures { IsNext clock self.now ticks result }
+    {
+        let wait = self.wait.max(1);
+        let period = self.shortest()?;
+        let tick = u32::from(wait) + u32::from(period.ticks_to(clock + u64::from(wait)));
+        (tick <= ticks).then_some(tick)
     }
-    wait as u64
-}
 
-// The tick in which a channel leaves with no other before it: that of the first multiple when the wait is over.
-fn leave_tick(wait: u16, shift: u8, clock: u64) -> u64
-    requires { (shift < 8) × (clock < 2 ^ 33) }
-    ensures { result ≡ leave_tick clock wait shift }
-{
-    let period = power(shift);
-    let from = clock + at_least_one(wait);
-    ((from + (period - 1)) >> shift as u32) * period - clock
-}
-
-fn sooner(wait: u16, shift: u8, clock: u64, first: u64) -> u64
-    requires { clock < 2 ^ 33 }
-    ensures { result ≡ (if ltb shift 8 then min (leave_tick clock wait shift) first else first) }
-{
-    if shift < 8 {
-        let tick = leave_tick(wait, shift, clock);
-        if tick < first {
-            return tick;
+    // One tick, in turn: who may leave does.
+    fn leave(self, delay: u16, clock: u64, past: u32) -> Turns
+        ensures { result ≡ ticked clock past delay self }
+    {
+        let Turns {
+            mut wait,
+            mut waiters,
+        } = self;
+        for waiter in waiters.iter_mut() {
+            if waiter.may_leave(wait, clock) {
+                *waiter = Waiter::Left(past);
+                wait = delay;
+            }
         }
-        return first;
+        Turns { wait, waiters }
     }
-    first
-}
 
-// The tick in which the first of them leaves; where none waits, a number above every number of ticks.
-fn first_leave(wait: u16, waiters: [Waiter; 6], clock: u64) -> u64
-    requires { clock < 2 ^ 33 }
-    ensures { result ≡ first_leave clock wait waiters }
-{
-    let mut first = 1099511627776;
-    let mut i = 6;
-    while 0 < i {
-        i -= 1;
-        let waiter = waiters[i];
-        first = sooner(wait, waiter.shift, clock, first);
+    fn fallen(self, ticks: u32) -> Turns
+        ensures { result ≡ fallen ticks self }
+    {
+        Turns {
+            wait: fall(self.wait, ticks),
+            ..self
+        }
     }
-    first
-}
 
-#[tactic(auto, unfolding(crate::specs::Turns::may_leave))]
-fn may_leave(wait: u16, shift: u8, clock: u64) -> bool
-    requires { clock < 2 ^ 34 }
-    ensures { result ≡ may_leave clock wait shift }
-{
-    if wait != 0 {
-        return false;
-    }
-    if shift < 8 {
-        return (clock >> shift as u32) * power(shift) == clock;
-    }
-    false
-}
-
-fn turn(leaves: bool, past: u32, waiter: Waiter) -> Waiter
-    ensures { result ≡ turn leaves past waiter }
-{
-    if leaves {
-        return Waiter {
-            shift: 8,
-            waited: past,
-        };
-    }
-    waiter
-}
-
-fn wait_then(leaves: bool, delay: u16, wait: u16) -> u16
-    ensures { result ≡ wait_then leaves delay wait }
-{
-    if leaves {
-        return delay;
-    }
-    wait
-}
-
-// One tick, in turn: who may leave does.
-fn leave(delay: u16, wait: u16, waiters: [Waiter; 6], clock: u64, past: u32) -> Turns
-    requires { clock < 2 ^ 34 }
-    ensures { (result.wait, result.waiters) ≡ ticked clock past delay wait waiters }
-{
-    let mut next = waiters;
-    let mut left = wait;
-    let mut i = 0;
-    while i < 6 {
-        let waiter = waiters[i];
-        let leaves = may_leave(left, waiter.shift, clock);
-        next[i] = turn(leaves, past, waiter);
-        left = wait_then(leaves, delay, left);
-        i += 1;
-    }
-    Turns {
-        wait: left,
-        waiters: next,
-    }
-}
-
-// So many ticks of them. Each round takes the ticks up to the next one in which a channel leaves, and each leaves once at most: so there
-// are no more rounds than channels.
-pub fn turns_after(delay: u16, wait: u16, waiters: [Waiter; 6], clock: u32, ticks: u32) -> Turns
-    ensures { (result.wait, result.waiters) ≡ turns_after delay clock ticks (wait, waiters) }
-{
-    let mut now = waiters;
-    let mut left = wait;
-    let mut past = 0u32;
-    let mut first = first_leave(left, now, clock as u64);
-    while first <= (ticks - past) as u64 {
-        let step = first as u32;
-        past += step;
-        let turns = leave(
-            delay,
-            fall(left, step),
-            now,
-            clock as u64 + past as u64,
-            past - 1,
-        );
-        let next = turns.waiters;
-        now = next;
-        left = turns.wait;
-        first = first_leave(left, now, clock as u64 + past as u64);
-    }
-    Turns {
-        wait: fall(left, ticks - past),
-        waiters: now,
+    // So many ticks of them. Each round takes the ticks up to the next one in which a channel leaves, and each leaves once at most: so
+    // there are no more rounds than channels.
+    pub fn after(self, delay: u16, clock: u32, ticks: u32) -> Turns
+        ensures { result ≡ turns_after delay clock ticks self }
+    {
+        let mut now = self;
+        let mut past = 0;
+        while let Some(tick) = now.next_leave(u64::from(clock) + u64::from(past), ticks - past) {
+            past += tick;
+            now = now
+                .fallen(tick)
+                .leave(delay, u64::from(clock) + u64::from(past), past - 1);
+        }
+        now.fallen(ticks - past)
     }
 }
