@@ -1,46 +1,28 @@
 // A fresh galley.
 ghost use Rattle.std.specs.Prelude.{◌≡◌};
-ghost use Rattle.galley_rules.specs.Galley.{temperature_out_of_range, zero_galley, galley_answer, fresh_of};
+ghost use Rattle.galley_rules.specs.Galley.{zero_galley, fresh_of};
+ghost use Rattle.galley_rules.specs.Refusals.{fresh_by};
 
-use galley_rows::temperature::in_range;
-use galley_rules::{Galley, GalleyAnswer, TEMPERATURE_OUT_OF_RANGE};
-use rules::ACCEPTED;
+use galley_rows::temperature::taken;
+use galley_rules::{Galley, GalleyRefusal};
 
-fn refused() -> GalleyAnswer
-    ensures { result ≡ galley_answer temperature_out_of_range zero_galley }
+// The galley in hand after a refused fresh: of fresh's result, `unwrap_or_default` gives it.
+pub fn zero_galley() -> Galley
+    ensures { result ≡ zero_galley }
 {
-    GalleyAnswer {
-        refusal: TEMPERATURE_OUT_OF_RANGE,
-        galley: Galley {
-            row: 0,
-            temperature: 0,
-            high: 0,
-            over: 0,
-            hysteresis: false,
-            quiet: false,
-        },
-    }
+    Galley::default()
 }
 
 // A galley at row 0 and temperature 0, with its two thresholds, its hysteresis bit and the flag of its quiet table.
-pub fn fresh(high: i32, over: i32, hysteresis: bool, quiet: bool) -> GalleyAnswer
-    ensures { result ≡ fresh_of high over hysteresis quiet }
+#[tactic(auto, unfolding(galley_rules::specs::Galley::fresh_of))]
+pub fn fresh(high: i32, over: i32, hysteresis: bool, quiet: bool) -> Result<Galley, GalleyRefusal>
+    ensures { fresh_by result ≡ fresh_of high over hysteresis quiet }
 {
-    if !in_range(high) {
-        return refused();
-    }
-    if !in_range(over) {
-        return refused();
-    }
-    GalleyAnswer {
-        refusal: ACCEPTED,
-        galley: Galley {
-            row: 0,
-            temperature: 0,
-            high: high as i16,
-            over: over as i16,
-            hysteresis: hysteresis,
-            quiet: quiet,
-        },
-    }
+    Ok(Galley {
+        high: taken(high)?,
+        over: taken(over)?,
+        hysteresis,
+        quiet,
+        ..Galley::default()
+    })
 }

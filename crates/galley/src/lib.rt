@@ -6,7 +6,7 @@ mod sampling;
 mod spans;
 mod thermometer;
 
-pub use beginning::fresh;
+pub use beginning::{fresh, zero_galley};
 pub use sampling::sample;
-pub use spans::{rows, span_refusal, span_rows};
+pub use spans::rows;
 pub use thermometer::degrees;

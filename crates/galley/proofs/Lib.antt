@@ -1,0 +1,2 @@
+-- What the proofs of the galley's calls share.
+pub mod Cut
