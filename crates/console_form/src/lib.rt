@@ -2,104 +2,69 @@
 #![tactic(auto)]
 
 ghost use Rattle.std.specs.Prelude.{◌+◌, ◌*◌, ◌≤◌, max, length};
+ghost use Rattle.lent.specs.Put.{Puts};
 ghost use Rattle.console_text.specs.Frame.{Frame};
+ghost use Rattle.console_form.specs.Lines.{valid_line, seconds_line};
 
-use console_text::decimal::put_digits;
-use console_text::fraction::put_512ths;
-use lent::put;
+use console_text::decimal::put_padded;
+use console_text::fraction::put_nine_decimals;
+use lent::Page;
 
-pub fn put_text(bytes: &[u8], out: &mut [u8], at: usize) -> usize
-    ensures { Frame (length bytes.now) at out.old out.new result }
+pub fn put_text(page: &mut Page, text: &[u8])
+    ensures { Frame (length text.now) page.old page.new }
 {
-    put(bytes, out, at)
+    page.put(text);
 }
 
 // Puts one of two texts.
-pub fn put_either(first: bool, one: &[u8], other: &[u8], out: &mut [u8], at: usize) -> usize
-    ensures { Frame (max (length one.now) (length other.now)) at out.old out.new result }
+pub fn put_either(page: &mut Page, first: bool, one: &[u8], other: &[u8])
+    ensures { Frame (max (length one.now) (length other.now)) page.old page.new }
 {
-    if first {
-        return put_text(one, out, at);
-    }
-    put_text(other, out, at)
+    put_text(page, if first { one } else { other });
 }
 
-// Where a column begins that ends after ten spaces and the digits of a number: so many places before, and no later than the
-// digits.
-fn column_start(end: usize, width: usize) -> usize
-    requires { (10 ≤ end) × (end ≤ 20) }
-    ensures { (result ≤ end) × (end ≤ result + 10) }
+// How many bytes a form begins with that are places of a number, or that are not.
+fn run(form: &[u8], place: bool) -> usize
+    ensures { result ≤ length form.now }
 {
-    if 10 < width {
-        return end - 10;
-    }
-    if end - width < 10 {
-        return end - width;
-    }
-    10
-}
-
-// Puts a number with spaces in front of it up to so many places, ten at most.
-fn put_column(n: u32, width: usize, out: &mut [u8], at: usize) -> usize
-    ensures { Frame 10 at out.old out.new result }
-{
-    let mut places = [b' '; 20];
-    let end = put_digits(n, 1, &mut places, 10);
-    let from = column_start(end, width);
-    put(&places[from..end], out, at)
-}
-
-// Past the bytes of a form from an index on that are places of a number, or past those that are not.
-fn past(form: &[u8], from: usize, place: bool) -> usize
-    requires { from ≤ length form.now }
-    ensures { (from ≤ result) × (result ≤ length form.now) }
-{
-    let mut i = from;
-    while i < form.len() {
-        if (form[i] == b'#') != place {
-            return i;
-        }
-        i += 1;
-    }
-    i
+    form.iter()
+        .take_while(|byte| (**byte == b'#') == place)
+        .count()
 }
 
 // Puts a form with numbers in it: each run of `#` is the place of the next number, which ends where the run ends, or
-// further on where it has more digits.
-pub fn put_form(form: &[u8], numbers: &[u32], out: &mut [u8], at: usize) -> usize
-    ensures { Frame (length form.now + 10 * length numbers.now) at out.old out.new result }
+// further on where it has more digits. A place counts up to ten wide.
+pub fn put_form(page: &mut Page, form: &[u8], numbers: &[u32])
+    ensures { Frame (length form.now + 10 * length numbers.now) page.old page.new }
 {
-    let mut next = at;
-    let mut from = 0;
-    let mut i = 0;
-    while i < numbers.len() {
-        let place = past(form, from, false);
-        let end = past(form, place, true);
-        let begin = put(&form[from..place], out, next);
-        next = put_column(numbers[i], end - place, out, begin);
-        from = end;
-        i += 1;
+    let mut rest = form;
+    for n in numbers {
+        let (text, from_place) = rest.split_at(run(rest, false));
+        let (place, after) = from_place.split_at(run(from_place, true));
+        page.put(text);
+        put_padded(page, *n, place.len().min(10));
+        rest = after;
     }
-    put(&form[from..], out, next)
+    page.put(rest);
 }
 
-pub fn put_valid(valid: bool, out: &mut [u8], at: usize) -> usize
-    ensures { Frame 44 at out.old out.new result }
+pub fn put_valid(page: &mut Page, valid: bool)
+    ensures put { Puts (valid_line valid) page.old page.new }
+    ensures frame { Frame 44 page.old page.new }
 {
-    put_either(
-        valid,
-        b"state     valid\n",
-        b"state     not valid: calls refuse it with 1\n",
-        out,
-        at,
-    )
+    if valid {
+        page.put(b"state     valid\n");
+    } else {
+        page.put(b"state     not valid: calls refuse it with 1\n");
+    }
 }
 
 // A number of ticks in seconds, after ten bytes that name it.
-pub fn put_seconds(name: &[u8; 10], ticks: u32, out: &mut [u8], at: usize) -> usize
-    ensures { Frame 33 at out.old out.new result }
+pub fn put_seconds(page: &mut Page, name: &[u8; 10], ticks: u32)
+    ensures put { Puts (seconds_line name.now ticks) page.old page.new }
+    ensures frame { Frame 33 page.old page.new }
 {
-    let begin = put_text(name, out, at);
-    let seconds = put_512ths(ticks as f64 / 512.0, out, begin);
-    put_text(b" s\n", out, seconds)
+    page.put(name);
+    put_nine_decimals(page, ticks);
+    page.put(b" s\n");
 }

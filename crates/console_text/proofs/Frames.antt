@@ -44,6 +44,10 @@ frame_then {m} {n} {before} {between} {after} f g =
 pub frame-looser : {m n : ℕ} {before after : Page} → m ≤ n → Frame m before after → Frame n before after
 frame-looser h f = record { kept = f.kept; long = f.long; grows = f.grows; within = omega arith; same = f.same }
 
+-- a text that is known, and is no longer
+pub puts-within : {bytes : List ℕ} {before after : Page} (most : ℕ) → length bytes ≤ most → Puts bytes before after → Frame most before after
+puts-within most h p = frame-looser h (put-frame p)
+
 -- two, three or four texts one after the other
 module _ {most m n : ℕ} {before between after : Page} (f : Frame m before between) (g : Frame n between after) where
   pub frames-2 : m + n ≤ most → Frame most before after

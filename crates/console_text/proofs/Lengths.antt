@@ -2,11 +2,11 @@
 use Prim.Native.Nat.{ℕ, zero, suc, ◌-◌, ◌*◌, ◌/◌, ◌%◌, ◌≤◌}
 use mathlib.Core.Bool.{false, ◌&&◌}
 use native.Mathlib.Omega.{arith}
-use lib.ListN.{length, length-append}
+use lib.ListN.{length, length-append, length-replicate}
 use lib.Dec.{eqb}
 use lib.IntN.{ℤ, pos, negsuc}
 use lib.Ieee.{Float, fin, neg, lt}
-use Rattle.console_text.specs.Decimal.{digits_within, digits_of}
+use Rattle.console_text.specs.Decimal.{digits_within, digits_of, padded}
 use Rattle.console_text.specs.Fraction.{parts_of, nine_decimals, three_decimals, eighths_text, signed_eighths}
 use Rattle.console_text.specs.Signed.{signed_decimal}
 use Rattle.rules.proofs.Tests.{by-test}
@@ -23,6 +23,11 @@ digits-within (suc room) least n =
 pub digits-length : (least n : ℕ) → length (digits_of least n) ≤ 10
 unfolding digits_of
 digits-length least n = digits-within 10 least n
+
+-- one in its places, ten at most, too
+pub padded-length : (places n : ℕ) → places ≤ 10 → length (padded places n) ≤ 10
+unfolding padded
+padded-length places n h = rw (length-append, length-replicate) (omega (arith, digits-length 1 n))
 
 -- 512ths with nine decimals are at most twenty bytes
 pub nine-length : (n : ℕ) → length (nine_decimals n) ≤ 20

@@ -1,6 +1,6 @@
 -- What a word is as a number: "Numbers are decimal, or hexadecimal after `0x` or `0X` (at least one digit), from 0 to
 -- 4,294,967,295; leading zeros are allowed".
-use Rattle.std.specs.Prelude.{ℕ, ◌+◌, ◌-◌, ◌*◌, ◌^◌, Bool, true, ◌&&◌, ◌||◌, List, [], ◌∷◌, get_or, drop, eqb, leb, ltb, if◌then◌else◌, Option, Some, None, Result, Ok, Err}
+use Rattle.std.specs.Prelude.{ℕ, ◌+◌, ◌-◌, ◌*◌, ◌^◌, Bool, ◌&&◌, ◌||◌, List, [], ◌∷◌, get_or, drop, eqb, leb, ltb, if◌then◌else◌, Option, Some, None, Result, Ok, Err}
 use Rattle.std.specs.List.{list_all}
 use Rattle.console_text.specs.declared.number.NumberError.{NumberError}
 use Rattle.console_text.specs.declared.number.NumberError.TheVariants.{TooLarge, NotNumber}

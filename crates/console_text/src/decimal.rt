@@ -1,7 +1,7 @@
 // A number as decimal digits.
-ghost use Rattle.std.specs.Prelude.{◌≡◌, ◌≤◌, length, drop};
+ghost use Rattle.std.specs.Prelude.{◌≡◌, ◌≤◌, min, length, drop};
 ghost use Rattle.lent.specs.Put.{Puts};
-ghost use Rattle.console_text.specs.Decimal.{digits_of, decimal_of};
+ghost use Rattle.console_text.specs.Decimal.{digits_of, decimal_of, padded};
 
 use lent::Page;
 
@@ -36,4 +36,15 @@ pub fn put_decimal(page: &mut Page, n: u32)
     ensures { Puts (decimal_of n) page.old page.new }
 {
     put_digits(page, n, 1);
+}
+
+// Puts a number with spaces in front of it up to so many places, ten at most.
+pub fn put_padded(page: &mut Page, n: u32, places: usize)
+    ensures { Puts (padded (min places 10) n) page.old page.new }
+{
+    let mut bytes = [0; 10];
+    let from = spell(n, 1, &mut bytes);
+    let digits = &bytes[from..];
+    page.put(&[b' '; 10][..places.min(10).saturating_sub(digits.len())]);
+    page.put(digits);
 }

@@ -1,16 +1,15 @@
 -- One more number is put after the bytes of the form before it.
 use Rattle.std.proofs.Common.{arith}
-use lib.ListN.{length-take}
-use Rattle.console_text.proofs.Frames.{put-frame, frame_then, frame-looser}
+use Rattle.console_text.proofs.Frames.{put-frame, frames-2, frames-3, puts-within}
+use Rattle.console_text.proofs.Lengths.{padded-length}
 use Rattle.console_form.proofs.put_form.Goals as goal
 
-pub loop-i-preserved : goal.loop-i-preserved
-loop-i-preserved c = (
-  frame-looser (rw length-take (omega arith))
-      (frame_then (frame_then c.loop-i.invariant.0 (put-frame c.put-begin.ensures)) c.put_column-next.ensures),
-  omega arith,
+pub loop-n-preserved : goal.loop-n-preserved
+loop-n-preserved c = (
+  frames-3 c.loop-n.invariant.0 (put-frame c.put.ensures) (puts-within 10 (padded-length _ _ (omega arith)) c.put_padded.ensures)
+      (omega arith),
   omega arith,
 )
 
 pub returns : goal.returns
-returns c = frame-looser (rw length-take (omega arith)) (frame_then c.loop-i.invariant.0 (put-frame c.put.ensures))
+returns c = frames-2 c.loop-n.invariant.0 (put-frame c.put-2.ensures) (omega arith)
