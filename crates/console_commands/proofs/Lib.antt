@@ -1,4 +1,4 @@
-pub mod Parameters
+pub mod Readings
 pub mod Taking
 pub mod Parsing
 pub mod Halves

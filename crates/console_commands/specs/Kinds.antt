@@ -5,8 +5,8 @@ use Rattle.rules.specs.declared.Call.TheVariants as call
 use Rattle.strings.specs.declared.order.Order.{Order}
 use Rattle.strings.specs.declared.order.Order.TheVariants as order
 use Rattle.lent.specs.Values.{byte_of, word_of}
-use Rattle.console_table.specs.declared.Kind.{Kind}
-use Rattle.console_table.specs.declared.Kind.TheVariants.{Write, Read, Ticks, Tachometer, Pin, WriteWord, Pulse}
+use Rattle.strings.specs.declared.kind.Kind.{Kind}
+use Rattle.strings.specs.declared.kind.Kind.TheVariants.{Write, Read, Ticks, Tachometer, Pin, WriteWord, Pulse}
 
 -- "`write ADDRESS BYTE`" and so on; "`pin LEVEL` (0 low, 1 high)"
 abbrev pub call_by : ℕ → ℕ → Kind → Call

@@ -1,34 +1,40 @@
--- What a line has to have, what its word names, and what reading it gives.
-use Rattle.std.specs.Prelude.{ℕ, ◌≤◌, ◌≡◌, Bool, true, false, List, [], ◌∷◌, length, drop}
-use Rattle.std.proofs.lemmas.List.Edits.{sets}
+-- How the source reads a line: its first word, and by what the words after a command are taken.
+use Rattle.std.specs.Prelude.{ℕ, ◌≤◌, ◌≡◌, List, [], ◌∷◌, length, Option, Some, None, Result, Ok, Err}
+use denote.Ref.{Bor}
+use Rattle.numbers.specs.Numbers.{number_count}
 use Rattle.console_text.specs.Words.{words_of}
-use Rattle.console_table.specs.declared.Parameter.{Parameter}
-use Rattle.console_table.specs.Table.{named_by}
-use Rattle.console_table.specs.Rows.{parameters_by, FoundAs}
-use Rattle.console_commands.specs.declared.Asked.{Asked}
-use Rattle.console_commands.specs.declared.Looked.{Looked}
-use Rattle.console_commands.specs.declared.Parsed.{Parsed}
-use Rattle.console_commands.specs.Commands.{widened, Line, parsed_by, values_by, bytes_by}
+use Rattle.strings.specs.declared.kind.Kind.{Kind}
+use Rattle.console_table.specs.declared.Asks.{Asks}
+use Rattle.console_table.specs.declared.Asks.TheVariants.{For, Record}
+use Rattle.console_table.specs.declared.Request.TheVariants.{Call, Verb, View}
+use Rattle.console_table.specs.Rows.{parameters_in}
+use Rattle.console_commands.specs.declared.Reading.{Reading}
+use Rattle.console_commands.specs.declared.Reason.{Reason}
+use Rattle.console_commands.specs.Commands.{Line}
 
--- the parameters of a row, or as many numbers of a record, which may be any
-abbrev pub parameters_as : Bool → List Parameter → List Parameter
-parameters_as false parameters = parameters
-parameters_as true parameters = widened parameters
+-- the first word and those after it
+abbrev pub words_split : Option (Bor (List ℕ) × Bor (List ℕ)) → List (List ℕ)
+words_split None = []
+words_split (Some (word, rest)) = word.now ∷ words_of rest.now
 
-abbrev pub parameters_of : Asked → List Parameter
-parameters_of asked = parameters_as asked.wide (parameters_by asked.count asked.slots)
+-- the kind of the call that a row asks for
+abbrev pub kind_in : Asks → Option Kind
+kind_in (For (Call kind)) = Some kind
+kind_in (For (Verb verb)) = None
+kind_in (For (View view)) = None
+kind_in Record = None
 
--- what reading a line gives: what it is, and its numbers and bytes in the buffers that were lent
-pub record Gives (line : Line) (values bytes values_after bytes_after : List ℕ) (parsed : Parsed) : Type 0 where
-  pub parsed-as : parsed ≡ parsed_by line
-  pub values-set : values_after ≡ sets values 0 (values_by line)
-  pub bytes-set : bytes_after ≡ sets bytes 0 (bytes_by line)
+abbrev pub line_in : Reading → Line
+line_in reading =
+    record {
+      place = reading.place;
+      parsed = reading.parsed;
+      parameters = parameters_in reading.parameters;
+      first = reading.first;
+      words = words_of reading.words.now;
+    }
 
--- what a word of a line names: of the words from an index on, whether there is none, the index after the first, and its row
-abbrev pub LooksUp : List ℕ → List (List ℕ) → Looked → Type 0
-LooksUp line [] looked = looked.ended ≡ true
-LooksUp line (word ∷ words) looked =
-    (looked.ended ≡ false) × FoundAs (named_by word) looked.found × (words_of (drop looked.end line) ≡ words) × (looked.end ≤ length line)
-
-abbrev pub Looks : List ℕ → ℕ → Looked → Type 0
-Looks line from looked = LooksUp line (words_of (drop from line)) looked
+-- a line is read so: with no more parameters than a state has numbers, which begin at the second word or the third
+abbrev pub ReadsAs : Result Line Reason → Result Reading Reason → Type 0
+ReadsAs line (Ok reading) = (line ≡ Ok (line_in reading)) × (length (parameters_in reading.parameters) ≤ number_count) × (reading.first ≤ 3)
+ReadsAs line (Err reason) = line ≡ Err reason

@@ -2,9 +2,8 @@
 ghost use Rattle.std.specs.Prelude.{◌≡◌};
 ghost use Rattle.console_commands.specs.Kinds.{call_by, order_by};
 
-use console_table::Kind;
 use rules::Call;
-use strings::Order;
+use strings::{Kind, Order};
 
 // The table's limits hold a byte and a word to what they can be.
 pub fn call_by(kind: Kind, first: u32, second: u32) -> Call

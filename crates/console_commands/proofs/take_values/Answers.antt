@@ -1,43 +1,61 @@
--- One more word is taken or refused, or no word is left.
-use Rattle.std.proofs.Common.{◌≡◌, ◌+◌, ◌-◌, ◌<◌, length, get_or, take, drop, sym, ap, ◌∙◌, arith}
-use lib.ListN.{length-set}
-use Rattle.console_text.proofs.Runs.{found_first}
-use Rattle.console_table.specs.declared.Parameter.TheVariants.{Bytes}
-use Rattle.console_commands.specs.Commands.{value_of}
-use Rattle.console_commands.specs.Steps.{parameters_of}
-use Rattle.console_commands.proofs.Taking.{none_left, one-refused, one-taken, no_words}
+-- One more word is taken or refused, or none is left.
+use Rattle.std.proofs.Common.{◌+◌, drop, sym, ◌∙◌, inl, inr, arith}
+use lib.ListN.{drop_of_length-le}
+use Rattle.std.proofs.lemmas.List.{set-get_or}
+use Rattle.console_table.specs.Rows.{parameters_in}
+use Rattle.console_commands.proofs.Readings.{passed-on}
+use Rattle.console_commands.proofs.Taking.{from-past, nothing-left, one-refused, none-stored, one-taken, one-stored}
 use Rattle.console_commands.proofs.take_values.Goals as goal
 
-pub returns-in-Refused : goal.returns-in-Refused
-returns-in-Refused c =
+pub returns-in_err-value : goal.returns-in_err-value
+returns-in_err-value c =
     let loop = c.loop-i in
-    let parameters = parameters_of c.args.asked in
-    let another : loop.i < length parameters = omega arith in
-    let word = take (c.in-At.end - c.in-At.begin) (drop c.in-At.begin c.args.line.now) in
-    let heard : value_of (get_or parameters loop.i Bytes) (c.args.first + loop.i) word ≡ c.taken-value.result =
-    rw (← c.parameter-parameter.ensures) (sym c.taken-value.ensures) in
-    let refused =
-    one-refused parameters c.args.first loop.i loop.values loop.invariant.2 loop.invariant.3 another
-    (found_first c.next_word-next.ensures c.in-At.is) (heard ∙ c.in-Refused.is) in
-    record { value = refused.0; values_after = refused.1 }
+    let parameters = parameters_in c.args.parameters in
+    let p = sym c.get.ensures ∙ c.in-Some-Some.is-0 in
+    let first = c.in-Some-Some.ensures' in
+    let refused = sym c.taken.ensures ∙ c.in_err-value.was in
+    record {
+      value = passed-on c.from_residual.result c.from_residual.ensures.1 ∙ sym (one-refused parameters loop.i p first c.args.first refused) ∙ loop.invariant.taken;
+      values_after = set-get_or loop.values loop.i 0 ∙ rw (none-stored parameters loop.i p first c.args.first refused) at loop.invariant.stored;
+    }
 
 pub loop-i-preserved : goal.loop-i-preserved
 loop-i-preserved c =
     let loop = c.loop-i in
-    let parameters = parameters_of c.args.asked in
-    let another : loop.i < length parameters = omega arith in
-    let word = take (c.in-At.end - c.in-At.begin) (drop c.in-At.begin c.args.line.now) in
-    let heard : value_of (get_or parameters loop.i Bytes) (c.args.first + loop.i) word ≡ c.taken-value.result =
-    rw (← c.parameter-parameter.ensures) (sym c.taken-value.ensures) in
-    let first = found_first c.next_word-next.ensures c.in-At.is in
-    let taken =
-    one-taken parameters c.args.first loop.i loop.values loop.invariant.2 loop.invariant.3 another first (heard ∙ c.in-Taken.is) in
-    (rw length-set loop.invariant.0, omega (arith, ap length first), taken.0, taken.1)
+    let parameters = parameters_in c.args.parameters in
+    let p = sym c.get.ensures ∙ c.in-Some-Some.is-0 in
+    let first = c.in-Some-Some.ensures' in
+    let taken = sym c.taken.ensures ∙ c.in_ok-value.was in
+    record {
+      taken = sym (one-taken parameters loop.i p first c.args.first taken) ∙ loop.invariant.taken;
+      stored = sym (one-stored parameters loop.i p first c.args.first taken loop.values) ∙ loop.invariant.stored;
+    }
 
-pub returns : goal.returns
-returns c =
+pub returns-after-loop-i : goal.returns-after-loop-i
+returns-after-loop-i c =
     let loop = c.loop-i in
-    let left =
-    none_left (parameters_of c.args.asked) c.args.first loop.i loop.values loop.invariant.2 loop.invariant.3
-    (no_words _ (omega arith)) in
-    record { value = left.0; values_after = left.1 }
+    let past = drop_of_length-le (parameters_in c.args.parameters) {i = loop.i} (omega arith) in
+    let none = nothing-left _ _ (c.args.first + loop.i) (inl past) in
+    record {
+      value = sym none.0 ∙ loop.invariant.taken;
+      values_after = rw none.1 at loop.invariant.stored;
+    }
+
+pub returns-in_default : goal.returns-in_default
+returns-in_default c =
+    let loop = c.loop-i in
+    let none = nothing-left (drop loop.i (parameters_in c.args.parameters)) _ (c.args.first + loop.i) (inr (rw c.in_default.is-1 at c.split_word.ensures)) in
+    record {
+      value = sym none.0 ∙ loop.invariant.taken;
+      values_after = set-get_or loop.values loop.i 0 ∙ rw none.1 at loop.invariant.stored;
+    }
+
+pub returns-in_default-2 : goal.returns-in_default-2
+returns-in_default-2 c =
+    let loop = c.loop-i in
+    let past = from-past (parameters_in c.args.parameters) loop.i (sym c.get.ensures ∙ c.in_default.is-0) in
+    let none = nothing-left _ _ (c.args.first + loop.i) (inl past) in
+    record {
+      value = sym none.0 ∙ loop.invariant.taken;
+      values_after = set-get_or loop.values loop.i 0 ∙ rw none.1 at loop.invariant.stored;
+    }
