@@ -1,16 +1,19 @@
--- The numbers of the channels, put one channel after the other.
-use Prim.Native.Nat.{ℕ, zero, suc, ◌+◌, ◌≤◌, ◌<◌}
-use mathlib.Core.Path.{◌≡◌, refl, sym, ◌∙◌, ap, ap₂}
+-- The numbers of a state, put one channel after the other behind those of the box.
+use Prim.Native.Nat.{ℕ, zero, suc, ◌+◌, ◌*◌, ◌≤◌, ◌<◌}
+use mathlib.Core.Path.{◌≡◌, sym, ◌∙◌, ap}
 use mathlib.Core.List.{List, [], ◌∷◌, ◌++◌, append_assoc, append-nil}
 use native.Mathlib.Omega.{arith}
 use native.Mathlib.Numerals.{add-one}
-use lib.ListN.{length, get_or, take}
-use lib.Seq.{paste, take-paste, length-paste, take-suc, take_all}
+use lib.ListN.{length, get_or, take, length-append, length-take, length-drop}
+use lib.Seq.{take-suc, take_all}
+use borrow.Rule.Slice.PartMut.{put_mid}
+use Rattle.std.proofs.lemmas.List.{take-append-le}
+use Rattle.std.proofs.lemmas.Slice.{take-put_mid}
 use Rattle.rules.specs.declared.Channel.{Channel}
 use Rattle.rules.specs.declared.State.{State}
 use Rattle.numbers.specs.Numbers.{box_table, channel_table, limits_in, numbers_in, Numbers, Within, number_count, channels_numbers, state_numbers, channels_limits, limits, own_from}
 
-pub within-append : (l m a b : List ℕ) → Within l a → Within m b → Within (l ++ m) (a ++ b)
+within-append : (l m a b : List ℕ) → Within l a → Within m b → Within (l ++ m) (a ++ b)
 unfolding Within
 within-append [] m [] b v w = w
 within-append [] m (n ∷ a) b v w = absurd v
@@ -28,59 +31,51 @@ unfolding channels_limits
 limits-append zero = append-nil _
 limits-append (suc n) = ap (λ l. limits_in channel_table ++ l) (limits-append n) ∙ sym (append_assoc (limits_in channel_table) (channels_limits n) (limits_in channel_table))
 
--- the numbers before the channels' are as they were, and those of the first n channels are put
-module _ (channels : List Channel) (before : List ℕ) where
-  pub record Filled (numbers : List ℕ) (n : ℕ) : Type 0 where
-    pub front : take (own_from n) numbers ≡ take (length box_table) before ++ channels_numbers (take n channels)
-    pub long : length numbers ≡ length before
-    pub within : Within (channels_limits n) (channels_numbers (take n channels))
-    pub few : n ≤ 6
+-- the numbers of the box and of the first n channels, and the most that each can be
+abbrev first_numbers : State → ℕ → List ℕ
+first_numbers s n = numbers_in box_table s ++ channels_numbers (take n s.channels)
 
-  pub filled_none : Filled before 0
-  unfolding channels_numbers channels_limits Within
-  filled_none = record { front = sym (append-nil _); long = refl; within = tt; few = omega arith }
+abbrev first_limits : ℕ → List ℕ
+first_limits n = limits_in box_table ++ channels_limits n
 
-  module _ (room : length before ≡ number_count) (six : length channels ≡ 6) (numbers : List ℕ) where
-    pub filled_more : (n : ℕ) (d : Channel) (own after : List ℕ) → n < 6 → Filled numbers n →
-        Numbers channel_table (get_or channels n d) own → after ≡ paste numbers (own_from n) own (length own) → Filled after (n + 1)
-    filled_more n d own after h f e p =
-        let next : own_from (n + 1) ≡ own_from n + length channel_table = omega arith in
-        let wide : length own ≡ length channel_table = rw e.each in
-        let more : channels_numbers (take (n + 1) channels) ≡ channels_numbers (take n channels) ++ own =
-        rw (add-one, take-suc channels n d (omega arith), e.each) (numbers-append (take n channels) (get_or channels n d)) in
+-- they are put
+pub record Filled (s : State) (numbers : List ℕ) (n : ℕ) : Type 0 where
+  pub front : take (own_from n) numbers ≡ first_numbers s n
+  pub long : length numbers ≡ number_count
+  pub within : Within (first_limits n) (first_numbers s n)
+
+module _ (s : State) where
+  pub filled_none : (shared rest : List ℕ) → Numbers box_table s shared → length rest ≡ 6 * length channel_table → Filled s (shared ++ rest) 0
+  unfolding channels_numbers channels_limits
+  filled_none shared rest e long =
+      let wide : length shared ≡ length box_table = rw e.each in
+      record {
+        front = take-append-le (own_from 0) shared rest (omega arith) ∙ take_all (own_from 0) shared (omega arith) ∙ e.each;
+        long = rw length-append (omega arith);
+        within = rw e.each at e.within;
+      }
+
+  module _ (six : length s.channels ≡ 6) (numbers : List ℕ) (n : ℕ) (f : Filled s numbers n) where
+    pub filled_more : (d : Channel) (own : List ℕ) (wide : ℕ) → n < 6 → Numbers channel_table (get_or s.channels n d) own → wide ≡ length channel_table →
+        Filled s (put_mid (own_from n) wide numbers own) (n + 1)
+    filled_more d own wide h e w =
+        let long : length own ≡ length channel_table = rw e.each in
+        let more : channels_numbers (take (n + 1) s.channels) ≡ channels_numbers (take n s.channels) ++ own =
+        rw (add-one, take-suc s.channels n d (omega arith), e.each) (numbers-append (take n s.channels) (get_or s.channels n d)) in
+        let both : Within (first_limits n ++ limits_in channel_table) (first_numbers s n ++ own) = within-append _ _ _ _ f.within e.within in
         record {
           front =
-              rw (next, p, more, wide)
-              (take-paste numbers (own_from n) own (length channel_table) (omega (arith, f.long)) (omega arith)
-              ∙ ap₂ (λ a b. a ++ b) f.front (take_all (length channel_table) own (omega arith))
-              ∙ append_assoc (take (length box_table) before) (channels_numbers (take n channels)) own);
-          long = rw p (length-paste numbers (own_from n) own (length own) (omega (arith, f.long, wide)) (omega arith) ∙ f.long);
-          within = rw (more, add-one, limits-append n) (within-append (channels_limits n) _ _ own f.within e.within);
-          few = omega arith;
+              take-put_mid (own_from n) wide numbers own (own_from (n + 1)) (omega arith) (omega (arith, f.long))
+              ∙ rw (f.front, more) (append_assoc (numbers_in box_table s) (channels_numbers (take n s.channels)) own);
+          long = simp (length-append, length-take, length-drop) (omega (arith, f.long));
+          within = rw (more, add-one, limits-append n) both;
         }
 
-    pub filled-all : (n : ℕ) → 6 ≤ n → Filled numbers n → numbers ≡ take (length box_table) before ++ channels_numbers channels
-    filled-all n h f =
-        sym (take_all (own_from n) numbers (omega (arith, f.long))) ∙ f.front
-        ∙ ap (λ l. take (length box_table) before ++ channels_numbers l) (take_all n channels (omega arith))
-
-    pub filled_within : (n : ℕ) → 6 ≤ n → Filled numbers n → Within (channels_limits 6) (channels_numbers channels)
-    filled_within n h f =
+    pub filled-all : 6 ≤ n → n ≤ 6 → (numbers ≡ state_numbers s) × Within limits numbers
+    unfolding state_numbers limits
+    filled-all low high =
         let e : n ≡ 6 = omega arith in
-        let whole : take 6 channels ≡ channels = take_all 6 channels (omega arith) in
-        rw (e, whole) at f.within
-
--- the box's numbers, and then the channels'
-module _ (s : State) (before : List ℕ) {shared between after : List ℕ} (e : Numbers box_table s shared) (p : between ≡ paste before 0 shared (length shared))
-    (q : after ≡ take (length box_table) between ++ channels_numbers s.channels) where
-  pub whole : after ≡ state_numbers s
-  unfolding state_numbers
-  whole =
-      let wide : length shared ≡ length box_table = rw e.each in
-      let front : take (length box_table) between ≡ numbers_in box_table s =
-      rw (p, wide) (take-paste before 0 shared (length box_table) (omega arith) (omega arith) ∙ take_all (length box_table) shared (omega arith) ∙ e.each) in
-      q ∙ rw front
-
-  pub whole-within : Within (channels_limits 6) (channels_numbers s.channels) → Within limits after
-  unfolding state_numbers limits
-  whole-within v = rw whole (within-append (limits_in box_table) (channels_limits 6) (numbers_in box_table s) _ (rw e.each at e.within) v)
+        let whole : numbers ≡ state_numbers s =
+        sym (take_all (own_from n) numbers (omega (arith, f.long))) ∙ f.front
+        ∙ ap (λ l. numbers_in box_table s ++ channels_numbers l) (take_all n s.channels (omega arith)) in
+        (whole, rw whole (rw (e, take_all 6 s.channels (omega arith)) at f.within))

@@ -1,11 +1,14 @@
 -- Numbers within limits: their low bits are the whole of them, in front and behind.
 use Prim.Native.Nat.{ℕ, zero, suc, ◌+◌, ◌%◌, ◌≤◌}
 use mathlib.Core.Path.{◌≡◌, refl, ap, ap₂}
+use mathlib.Core.Bool.{Bool, true, false}
 use mathlib.Core.List.{List, [], ◌∷◌, ◌++◌}
 use native.Mathlib.Omega.{arith}
 use native.Mathlib.Nat.{mod-eq_of_lt}
 use lib.ListN.{length, get_or, take, drop}
 use lib.Seq.{drop-cons}
+use mir.Val.{bool_byte}
+use Rattle.rules.specs.Basics.{flag}
 use Rattle.numbers.specs.Numbers.{Within}
 
 -- each number's low bits, up to its limit
@@ -56,3 +59,12 @@ pub listed-take : (numbers : List ℕ) (k n : ℕ) → k + n ≤ length numbers 
 listed-take numbers k zero h = refl
 listed-take numbers k (suc n) h =
     rw (drop-cons numbers k 0 (omega arith)) (ap (λ l. get_or numbers k 0 ∷ l) (listed-take numbers (suc k) n (omega arith)))
+
+-- a flag as the machine has it
+pub flag-byte : (on : Bool) → bool_byte on ≡ flag on
+flag-byte true = refl
+flag-byte false = refl
+
+pub flag-byte-le : (on : Bool) → bool_byte on ≤ 1
+flag-byte-le true = omega arith
+flag-byte-le false = omega arith

@@ -1,6 +1,6 @@
 pub mod Limits
-pub mod Parts
 pub mod Filling
+pub mod Made
 pub mod Held
 pub mod RoundTrips
 pub mod Examples
