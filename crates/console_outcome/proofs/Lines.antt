@@ -1,32 +1,25 @@
 -- The line of an outcome, put piece by piece, and how long it is.
 use Prim.Native.Nat.{ℕ, ◌+◌, ◌*◌, ◌≤◌, ◌<◌}
-use mathlib.Core.Path.{◌≡◌, refl, sym}
-use mathlib.Core.Bool.{Bool, true, false}
+use mathlib.Core.Path.{◌≡◌, refl, sym, ap}
+use mathlib.Core.Bool.{Bool, true, false, not}
 use mathlib.Core.List.{List, [], ◌∷◌, ◌++◌, append_assoc}
 use native.Mathlib.Numerals.{add-one}
 use native.Mathlib.Omega.{arith}
 use lib.ListN.{length, get_or, take, drop, drop_of_length-le, length-append, length-take}
 use lib.Seq.{drop-cons}
-use lib.Dec.{ltb}
-use borrow.Author.Tests.{lt-ltb}
-use Rattle.lent.specs.Put.{Put}
-use Rattle.lent.proofs.Stores.{put-append}
+use lib.Dec.{eqb}
+use Rattle.std.proofs.Math.Dec.{eqb-suc-zero}
+use Rattle.lent.specs.declared.Page.{Page}
+use Rattle.lent.specs.Put.{Puts}
+use Rattle.lent.proofs.Stores.{puts-append}
 use Rattle.console_text.proofs.Lengths.{digits-length, signed-length}
 use Rattle.console_text.specs.Signed.{integer_of}
 use Rattle.console_hex.specs.Bytes.{hex_of}
 use Rattle.console_hex.proofs.Pairs.{hex-length}
 use Rattle.numbers.specs.Numbers.{number_count}
-use Rattle.console_outcome.specs.Outcome.{Part, nothing, part_of, told_of, space_after, number_text, numbers_text, begun, end_by, line_by, line_of, line_most}
-use Rattle.console_outcome.specs.declared.outcome.Printed.{Printed}
-use Rattle.console_outcome.specs.declared.outcome.Printed.TheVariants.{Nothing, Front}
+use Rattle.std.specs.Prelude.{Option, None, Some}
+use Rattle.console_outcome.specs.Outcome.{part_of, told_of, space_after, number_text, numbers_text, begun, end_by, line_by, line_of, line_most}
 use Rattle.console_outcome.specs.declared.outcome.Outcome.{Outcome}
-
--- ---- bytes, with a space before them where something stands there, and the end of the line
-pub some_bytes : (some : Bool) {bytes : Printed} (buffer : List ℕ) {at count spaced hexed next : ℕ} {before front one two after : List ℕ} →
-    bytes ≡ Front count → front ≡ take count buffer →
-    Put (space_after some) at before one spaced → Put (hex_of front) spaced one two hexed → Put (10 ∷ []) hexed two after next →
-    Put (end_by some (part_of bytes buffer)) at before after next
-some_bytes some buffer q e p h l = rw (q, sym e) (put-append p (put-append h l))
 
 -- ---- number by number
 module _ (signed : Bool) (numbers : List ℕ) (i : ℕ) where
@@ -40,9 +33,9 @@ module _ (signed : Bool) (numbers : List ℕ) (i : ℕ) where
   unfolding numbers_text
   numbers-end some h = rw (drop_of_length-le numbers h)
 
-pub some-numbers : (numbers : List ℕ) → ltb 0 (length numbers) ≡ begun numbers
+pub some-numbers : (numbers : List ℕ) → not (eqb (length numbers) 0) ≡ begun numbers
 some-numbers [] = refl
-some-numbers (n ∷ numbers) = lt-ltb 0 (length (n ∷ numbers)) (omega arith)
+some-numbers (n ∷ numbers) = ap not (eqb-suc-zero (length numbers))
 
 -- ---- how long it is at most
 number-length : (signed : Bool) (n : ℕ) → length (number_text signed n) ≤ 11
@@ -64,28 +57,26 @@ unfolding hex_of
 bytes-length most [] h = omega arith
 bytes-length most (byte ∷ bytes) h = omega (arith, hex-length most (omega arith) (byte ∷ bytes) h)
 
-end-length : (some : Bool) (bytes : Printed) (buffer : List ℕ) → length (end_by some (part_of bytes buffer)) ≤ 2 * length buffer + 3
-end-length true Nothing buffer = omega arith
-end-length false Nothing buffer = omega arith
-end-length some (Front count) buffer =
+end-length : (some : Bool) (bytes : Option ℕ) (buffer : List ℕ) → length (end_by some (part_of bytes buffer)) ≤ 2 * length buffer + 3
+end-length true None buffer = omega arith
+end-length false None buffer = omega arith
+end-length some (Some count) buffer =
     rw (length-append, length-append)
     (omega (arith, space-length some, bytes-length (length buffer) (take count buffer) (omega (arith, length-take count buffer))))
 
 -- ---- the whole line
-pub line-put : (signed : Bool) (bytes : Part) (numbers : List ℕ) {at end next : ℕ} {before between after : List ℕ} →
-    Put (numbers_text signed false numbers) at before between end → Put (end_by (ltb 0 (length numbers)) bytes) end between after next →
-    Put (line_by signed numbers bytes) at before after next
+pub line-puts : (signed : Bool) (bytes : Option (List ℕ)) (numbers : List ℕ) {some : Bool} {before between after : Page} → some ≡ begun numbers →
+    Puts (numbers_text signed false numbers) before between → Puts (end_by some bytes) between after → Puts (line_by signed numbers bytes) before after
 unfolding line_by
-line-put signed bytes numbers p q = rw (sym (some-numbers numbers)) (put-append p q)
+line-puts signed bytes numbers e p q = puts-append p (rw e at q)
 
 -- numbers alone
-pub plain-length : (signed : Bool) (numbers : List ℕ) → length (line_by signed numbers nothing) ≤ 12 * length numbers + 3
+pub plain-length : (signed : Bool) (numbers : List ℕ) → length (line_by signed numbers None) ≤ 12 * length numbers + 3
 unfolding line_by
-plain-length signed numbers = rw length-append (omega (arith, numbers-length signed false numbers, end-length (begun numbers) Nothing []))
+plain-length signed numbers = rw length-append (omega (arith, numbers-length signed false numbers, end-length (begun numbers) None []))
 
-pub line-length : (outcome : Outcome) (buffer : List ℕ) → length outcome.numbers ≡ number_count → length (line_of (told_of outcome buffer)) ≤ line_most (length buffer)
+pub line-length : (outcome : Outcome) (buffer : List ℕ) → length outcome.numbers ≤ number_count → length (line_of (told_of outcome buffer)) ≤ line_most (length buffer)
 unfolding line_by
 line-length outcome buffer h =
-    let shown = take outcome.count outcome.numbers in
     rw length-append
-    (omega (arith, length-take outcome.count outcome.numbers, numbers-length outcome.signed false shown, end-length (begun shown) outcome.bytes buffer))
+    (omega (arith, numbers-length outcome.signed false outcome.numbers, end-length (begun outcome.numbers) outcome.bytes buffer))

@@ -1,5 +1,6 @@
 -- What a command makes of what is in hand: what is in hand then, and what is printed, and how.
-use Rattle.std.specs.Prelude.{ℕ, ◌+◌, ◌*◌, ◌≡◌, Bool, true, false, List, [], ◌∷◌, ◌++◌, take, replicate}
+use Rattle.std.specs.Prelude.{ℕ, ◌+◌, ◌*◌, ◌≡◌, Bool, true, false, List, [], ◌∷◌, ◌++◌, take, replicate, Option, None, Some}
+use Rattle.std.specs.Borrow.{Bor}
 use Rattle.rules.specs.declared.State.{State}
 use Rattle.galley_rules.specs.declared.Galley.{Galley}
 use Rattle.numbers.specs.Numbers.{number_count}
@@ -8,8 +9,6 @@ use Rattle.console_text.specs.Decimal.{decimal_of}
 use Rattle.console_text.specs.Signed.{integer_of, signed_decimal}
 use Rattle.console_hex.specs.Bytes.{hex_of}
 use Rattle.console_outcome.specs.declared.hand.Hand.{Hand}
-use Rattle.console_outcome.specs.declared.outcome.Printed.{Printed}
-use Rattle.console_outcome.specs.declared.outcome.Printed.TheVariants.{Nothing, Front}
 use Rattle.console_outcome.specs.declared.outcome.Outcome.{Outcome}
 
 -- what is in hand, with another state, or with another galley
@@ -19,30 +18,26 @@ with_state hand s = record { state = s; galley = hand.galley }
 abbrev pub with_galley : Hand → Galley → Hand
 with_galley hand g = record { state = hand.state; galley = g }
 
--- the bytes of an answer, where it has any
-pub data Part : Type 0 where
-  nothing : Part
-  part : List ℕ → Part
-
--- what is in hand after a command, and what it prints: numbers, all of them as their 32 bits where they are signed, and bytes
+-- what is in hand after a command, and what it prints: numbers, all of them as their 32 bits where they are signed, and bytes, where the
+-- answer has any
 pub record Told : Type 0 where
   pub hand : Hand
   pub signed : Bool
   pub numbers : List ℕ
-  pub bytes : Part
+  pub bytes : Option (List ℕ)
 
-abbrev pub told : Hand → Bool → List ℕ → Part → Told
+abbrev pub told : Hand → Bool → List ℕ → Option (List ℕ) → Told
 told hand signed numbers bytes = record { hand = hand; signed = signed; numbers = numbers; bytes = bytes }
 
 -- numbers alone; signed ones; numbers and bytes
 abbrev pub tells : Hand → List ℕ → Told
-tells hand numbers = told hand false numbers nothing
+tells hand numbers = told hand false numbers None
 
 abbrev pub tells_signed : Hand → List ℕ → Told
-tells_signed hand numbers = told hand true numbers nothing
+tells_signed hand numbers = told hand true numbers None
 
 abbrev pub tells_bytes : Hand → List ℕ → List ℕ → Told
-tells_bytes hand numbers bytes = told hand false numbers (part bytes)
+tells_bytes hand numbers bytes = told hand false numbers (Some bytes)
 
 -- "The buffer has ROOM bytes (0 to 2,048), every one A5h before the call": a command is lent as many as any line asks for
 abbrev pub buffer_bytes : ℕ
@@ -51,13 +46,18 @@ buffer_bytes = 2_048
 abbrev pub fresh : List ℕ
 fresh = replicate buffer_bytes 0xA5
 
--- what an outcome of the source says, with the buffer that holds its bytes
-abbrev pub part_of : Printed → List ℕ → Part
-part_of Nothing buffer = nothing
-part_of (Front count) buffer = part (take count buffer)
+-- what an outcome of the source says, with the buffer that holds its bytes: so many from its front
+abbrev pub part_of : Option ℕ → List ℕ → Option (List ℕ)
+part_of None buffer = None
+part_of (Some count) buffer = Some (take count buffer)
 
 abbrev pub told_of : Outcome → List ℕ → Told
-told_of outcome buffer = told outcome.hand outcome.signed (take outcome.count outcome.numbers) (part_of outcome.bytes buffer)
+told_of outcome buffer = told outcome.hand outcome.signed outcome.numbers (part_of outcome.bytes buffer)
+
+-- bytes that are lent
+abbrev pub lent_bytes : Option (Bor (List ℕ)) → Option (List ℕ)
+lent_bytes None = None
+lent_bytes (Some bytes) = Some bytes.now
 
 -- an outcome that has no bytes says the same with every buffer
 abbrev pub Tells : Outcome → Told → Type 0
@@ -85,13 +85,13 @@ begun [] = false
 begun (n ∷ numbers) = true
 
 -- what comes after the numbers; "`ok`", where there is nothing to print
-abbrev pub end_by : Bool → Part → List ℕ
-end_by true nothing = 10 ∷ []
-end_by false nothing = ascii "ok\n"
-end_by some (part bytes) = space_after some ++ (hex_of bytes ++ (10 ∷ []))
+abbrev pub end_by : Bool → Option (List ℕ) → List ℕ
+end_by true None = 10 ∷ []
+end_by false None = ascii "ok\n"
+end_by some (Some bytes) = space_after some ++ (hex_of bytes ++ (10 ∷ []))
 
 -- a line of numbers and bytes; that of an outcome
-unfoldable pub line_by : Bool → List ℕ → Part → List ℕ
+unfoldable pub line_by : Bool → List ℕ → Option (List ℕ) → List ℕ
 line_by signed numbers bytes = numbers_text signed false numbers ++ end_by (begun numbers) bytes
 
 abbrev pub line_of : Told → List ℕ

@@ -2,5 +2,6 @@
 #![tactic(auto)]
 
 pub mod hand;
+pub mod list;
 pub mod outcome;
 pub mod print;

@@ -1,7 +1,6 @@
 -- A space, the bytes and a line feed are put one after the other.
-use Rattle.console_outcome.proofs.Lines.{some_bytes}
+use Rattle.lent.proofs.Stores.{puts-append}
 use Rattle.console_outcome.proofs.print.put_end.Goals as goal
 
-pub returns-in-Front : goal.returns-in-Front
-returns-in-Front c =
-    some_bytes c.args.begun c.args.buffer.now c.in-Front.is c.front.ensures c.put_space-space.ensures c.put_bytes-end.ensures c.put-in-Front.ensures
+pub returns-in-Some : goal.returns-in-Some
+returns-in-Some c = rw c.in-Some.is (puts-append c.put_space.ensures (puts-append c.put_bytes.ensures c.put.ensures))

@@ -1,0 +1,42 @@
+// Numbers, as many as a state has at most.
+ghost use Rattle.std.specs.Prelude.{◌≡◌, ◌≤◌, length, take};
+ghost use Rattle.numbers.specs.Numbers.{number_count};
+
+use numbers::STATE_NUMBERS;
+use std::marker::Model;
+
+#[derive(Drop)]
+pub struct NumberList {
+    list: [u32; STATE_NUMBERS],
+    count: usize,
+}
+
+impl Model for NumberList {
+    ghost use Rattle.std.specs.Prelude.{ℕ, ◌≤◌, List, take};
+    ghost use Rattle.numbers.specs.Numbers.{number_count};
+
+    ghost Value = { List ℕ };
+
+    ghost view = { λ numbers. take numbers.count numbers.list };
+
+    ghost invariant = { λ numbers. numbers.count ≤ number_count };
+}
+
+impl NumberList {
+    // The first of them, where there are more.
+    pub fn first_of(numbers: &[u32]) -> NumberList
+        ensures { result ≡ take number_count numbers.now }
+    {
+        let count = numbers.len().min(STATE_NUMBERS);
+        let mut list = [0; STATE_NUMBERS];
+        list[..count].copy_from_slice(&numbers[..count]);
+        NumberList { list, count }
+    }
+
+    pub fn as_slice(&self) -> &[u32]
+        ensures same { result.now ≡ self.now }
+        ensures few { length result.now ≤ number_count }
+    {
+        &self.list[..self.count]
+    }
+}
