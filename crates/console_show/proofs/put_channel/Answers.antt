@@ -4,5 +4,4 @@ use Rattle.console_text.proofs.Frames.{frames-4}
 use Rattle.console_show.proofs.put_channel.Goals as goal
 
 pub returns : goal.returns
-returns c =
-    frames-4 c.put_duties-duties.ensures c.put_speed-speed.ensures c.put_queue-queue.ensures c.put_spin_up.ensures (omega arith)
+returns c = frames-4 c.put_duties.ensures c.put_speed.ensures c.put_queue.ensures c.put_spin_up.ensures (omega arith)

@@ -5,5 +5,5 @@ use Rattle.console_show.proofs.put_show.Goals as goal
 
 pub returns : goal.returns
 returns c =
-    frames-4 c.put_timer-timer.ensures c.put_pins-pins.ensures c.put_modification-modification.ensures
-    (frame_then c.put_starts-starts.ensures c.put_channels.ensures) (omega arith)
+    frames-4 c.put_timer.ensures c.put_pins.ensures c.put_modification.ensures
+    (frame_then c.put_starts.ensures c.put_channels.ensures) (omega arith)

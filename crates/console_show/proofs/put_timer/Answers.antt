@@ -5,4 +5,4 @@ use Rattle.console_show.proofs.put_timer.Goals as goal
 
 pub returns : goal.returns
 returns c =
-    frames-4 c.put_valid-valid.ensures c.put_seconds-clock.ensures c.put_watchdog-watchdog.ensures c.put_either.ensures (omega arith)
+    frames-4 c.put_valid.ensures.frame c.put_seconds.ensures.frame c.put_watchdog.ensures c.put_either.ensures (omega arith)
