@@ -1,22 +1,35 @@
--- The fault byte has a bit for each channel and no more.
+-- The fault byte: it is 0 just where no channel has its fault bit set, and it has a bit for each channel and no more.
 use Prim.Native.Nat.{ℕ, zero, suc, ◌+◌, ◌*◌, ◌/◌, ◌%◌, ◌^◌, ◌<◌, ◌≤◌}
 use mathlib.Core.Path.{◌≡◌, refl, sym, ◌∙◌, ap}
-use mathlib.Core.Bool.{Bool, true, false}
+use mathlib.Core.Bool.{Bool, true, false, not, ◌||◌}
 use mathlib.Core.List.{List, [], ◌∷◌, reverse}
 use native.Mathlib.Omega.{arith}
 use native.Mathlib.Nat.{two-pow-succ, div-div-eq-div-mul, zero-div}
 use lib.Dec.{eqb}
 use lib.ListN.{length, get_or}
 use lib.Pow.{pow_mono}
-use borrow.Author.Tests.{eq-eqb, ne_eqb}
+use borrow.Author.Tests.{eq-eqb, ne_eqb, eqb-true, eqb-false}
 use Rattle.std.specs.List.{fold}
 use Rattle.std.proofs.lemmas.List.{reverse-append}
 use Rattle.std.proofs.lemmas.List.Sums.{fold_push}
 use Rattle.laws.proofs.Types.{Channel}
-use Rattle.rules.specs.Basics.{bit, flag}
+use Rattle.rules.specs.Basics.{some, bit, flag}
 use Rattle.rules.specs.State.{blank}
 use Rattle.rules.specs.Duty.{fault_byte}
 use Rattle.rules.proofs.Tests.{flag-le}
+
+-- a number is 0 just where its lowest bit is clear and its other bits are 0
+lowest-bit : (on : Bool) (n : ℕ) → (on || not (eqb n 0)) ≡ not (eqb (flag on + 2 * n) 0)
+lowest-bit true n = let e : 1 + 2 * n ≡ 0 → ⊥ = λ z. omega arith in sym (ap not (ne_eqb (1 + 2 * n) 0 e))
+lowest-bit false n = ap not (go (eqb n 0) refl)
+  where
+    go : (t : Bool) → eqb n 0 ≡ t → t ≡ eqb (0 + 2 * n) 0
+    go true e = sym (eq-eqb (0 + 2 * n) 0 (omega (arith, eqb-true n 0 e)))
+    go false e = let ne : 0 + 2 * n ≡ 0 → ⊥ = λ z. eqb-false n 0 e (omega arith) in sym (ne_eqb (0 + 2 * n) 0 ne)
+
+pub some-fault : (chs : List Channel) → some (λ ch. ch.fault) chs ≡ not (eqb (fault_byte chs) 0)
+some-fault [] = refl
+some-fault (ch ∷ chs) = ap (λ b. ch.fault || b) (some-fault chs) ∙ lowest-bit ch.fault (fault_byte chs)
 
 pub fault-byte-lt : (chs : List Channel) → fault_byte chs < 2 ^ length chs
 fault-byte-lt [] = omega arith
