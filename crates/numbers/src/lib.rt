@@ -214,7 +214,7 @@ pub fn state_of(values: &[u32]) -> State
     ensures { result ≡ state_from values.now }
 {
     State {
-        channels: std::array::from_fn(|i| channel_at(values, ChannelIndex::new(i))),
+        channels: std::array::from_fn(|i| channel_at(values, ChannelIndex::new(i).unwrap())),
         registers: registers_of(values),
         pin: flag(values, 1),
         start: start_of(values),

@@ -8,7 +8,7 @@ fn channel(n: u32) -> ChannelIndex
     requires { n < 6 }
     ensures { result ≡ n }
 {
-    ChannelIndex::new(n as usize)
+    ChannelIndex::new(n as usize).unwrap()
 }
 
 // What stands at an address. The rows of words have the low bytes at the odd addresses.

@@ -1,5 +1,5 @@
 // Which of the six channels, as a place in the array of them.
-ghost use Rattle.std.specs.Prelude.{◌≡◌, ◌<◌};
+ghost use Rattle.std.specs.Prelude.{◌≡◌, ◌<◌, ltb, Option, None, Some, if◌then◌else◌};
 ghost use Rattle.rules.specs.Calls.{numbered};
 
 use std::marker::Model;
@@ -22,23 +22,22 @@ impl Model for ChannelIndex {
 }
 
 impl ChannelIndex {
-    pub fn new(at: usize) -> ChannelIndex
-        requires { at < 6 }
-        ensures { result ≡ at }
+    // A place that counts from 0, if there is such a channel.
+    pub fn new(at: usize) -> Option<ChannelIndex>
+        ensures { result ≡ (if ltb at 6 then Some at else None) }
     {
-        ChannelIndex { at }
+        if at < 6 {
+            Some(ChannelIndex { at })
+        } else {
+            None
+        }
     }
 
     // The channel of a number that counts from 1, if there is one.
     pub fn numbered(number: u32) -> Option<ChannelIndex>
         ensures { result ≡ numbered number }
     {
-        if (1 <= number) & (number <= 6) {
-            return Some(ChannelIndex {
-                at: (number - 1) as usize,
-            });
-        }
-        None
+        ChannelIndex::new(number.checked_sub(1)? as usize)
     }
 
     pub fn get(self) -> usize
