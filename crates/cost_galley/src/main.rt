@@ -3,41 +3,35 @@
 // out otherwise.
 #![tactic(auto)]
 
-use galley_rules::Galley;
+use counting::{Given, letters, sum_of};
+use galley_rules::{Galley, TABLE_BYTES};
 use rules::State;
 use std::io;
-use std::io::Read;
 
 const CALLS: u32 = 10000;
 
 // The targets at the beginning: the duty of the byte `a`.
 const TARGET: u32 = 194;
 
-// All that a call gives: nothing of it can be left out as unused.
-#[derive(Clone, Copy)]
-struct Given {
-    number: u32,
-    state: State,
-}
-
 fn sampling(galley: Galley, state: State, table: &[u8]) -> Given {
-    let answer = galley::sample(galley, state, 320, table, table);
-    let next = answer.state;
-    Given {
-        number: answer.galley.row as u32,
-        state: next,
+    match galley::sample(galley, state, 320, table, table) {
+        Ok(sample) => Given {
+            number: u32::from(sample.galley.row),
+            state: sample.state,
+        },
+        Err(_) => Given {
+            number: u32::from(galley.row),
+            state,
+        },
     }
 }
 
 // The same duty to each of the six targets.
 fn writing(state: State, table: &[u8]) -> Given {
-    let word = first_of(table) as u16 * 256;
+    let word = u16::from(table.first().copied().unwrap_or(0)) * 256;
     let mut next = state;
-    let mut i: u32 = 0;
-    while i < 6 {
-        let written = write_word::write_word(next, 0x40 + 2 * i, word);
-        next = written.state;
-        i += 1;
+    for channel in 0..6 {
+        next = write_word::write_word(next, 0x40 + 2 * channel, word).unwrap_or(next);
     }
     Given {
         number: 0,
@@ -45,45 +39,22 @@ fn writing(state: State, table: &[u8]) -> Given {
     }
 }
 
-fn first_of(table: &[u8]) -> u8 {
-    if table.len() == 0 {
-        return 0;
-    }
-    table[0]
-}
-
 // One sample, or the writes that it makes, by the letter.
 fn call(galley: Galley, state: State, letter: u8, table: &[u8]) -> Given {
     if letter == b's' {
-        return sampling(galley, state, table);
+        sampling(galley, state, table)
+    } else {
+        writing(state, table)
     }
-    writing(state, table)
-}
-
-// Each time from another clock, and a sum of what is given.
-fn sum_of(galley: Galley, state: State, letter: u8, table: &[u8]) -> u64 {
-    let mut next = state;
-    let mut sum: u64 = 0;
-    let mut i: u32 = 0;
-    while i < CALLS {
-        next.timer.clock = i;
-        let given = call(galley, next, letter, table);
-        sum = sum.wrapping_add(given.state.timer.clock as u64);
-        sum = sum.wrapping_add(given.number as u64);
-        i += 1;
-    }
-    sum
 }
 
 fn main(rt: HostRuntime) -> io::Result<()> {
-    let mut text = [0u8; 2];
-    // A letter that the input lacks stays 0.
-    let _ = rt.stdin().read_exact(&mut text);
-    let table = [text[1]; 48];
-    let galley = galley::fresh(640, 720, false, false).galley;
-    let state = start::start(1, 0, TARGET, 0x11, 0).state;
+    let [letter, byte]: [u8; 2] = letters(&rt);
+    let table = [byte; TABLE_BYTES];
+    let galley = galley::fresh(640, 720, false, false).unwrap_or_default();
+    let state = start::start(1, 0, TARGET, 0x11, 0).unwrap_or_default();
     // One call first: with two places that call it, `call` stays a function that can be counted in.
-    let first = call(galley, state, text[0], &table);
-    let sum = (first.number as u64).wrapping_add(sum_of(galley, state, text[0], &table));
-    println!(rt; "{sum}")
+    let first = call(galley, state, letter, &table);
+    let sum = sum_of(state, CALLS, |state| call(galley, state, letter, &table));
+    println!(rt; "{}", sum.wrapping_add(u64::from(first.number)))
 }
