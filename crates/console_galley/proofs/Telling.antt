@@ -1,11 +1,12 @@
 -- How long the galley's answers are at most, and what they say.
 use Prim.Native.Nat.{ℕ, ◌-◌, ◌≤◌}
-use mathlib.Core.Path.{◌≡◌}
+use mathlib.Core.Path.{◌≡◌, refl}
 use mathlib.Core.Bool.{not}
 use mathlib.Core.List.{List, [], ◌∷◌}
 use native.Mathlib.Omega.{arith}
 use lib.Dec.{eqb, ltb}
-use lib.Ieee.{Float}
+use lib.Ieee.{Float, binary64, of_bits, round}
+use lib.IntN.{pos}
 use lib.ListN.{length, take, drop, length-append, length-take}
 use lib.Seq.{take_at}
 use borrow.Author.Tests.{eqb-true, ltb-false}
@@ -13,6 +14,7 @@ use Rattle.rules.proofs.Tests.{by-test}
 use Rattle.galley_rules.specs.declared.Galley.{Galley}
 use Rattle.galley_rules.specs.Galley.{valid_galley}
 use Rattle.galley_rules.specs.Table.{are_tables, in_force}
+use Rattle.galley_rules.specs.Degrees.{over8}
 use Rattle.galley_rules.specs.Span.{span_refusal, span_rows}
 use Rattle.lent.specs.Put.{Put}
 use Rattle.lent.proofs.Stores.{put-with-room}
@@ -43,6 +45,10 @@ part_length g first end normal quiet =
     (λ f. rw f (omega arith))
 
 -- ---- the texts
+pub nothing-over8 : over8 (pos 0) ≡ of_bits binary64 0
+unfolding over8 round of_bits
+nothing-over8 = refl
+
 pub degrees-length : (refusal : ℕ) (x : Float) → length (degrees_text refusal x) ≤ degrees_most
 unfolding degrees_text
 degrees-length refusal x = simp length-append (omega (arith, digits-length 1 refusal, eighths-length x))

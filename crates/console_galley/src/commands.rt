@@ -1,15 +1,18 @@
 // The commands that make a galley, drive it, ask for a part of its table, and take its numbers.
-ghost use Rattle.std.specs.Prelude.{◌≡◌, drop};
+ghost use Rattle.std.specs.Prelude.{◌≡◌};
+ghost use Rattle.galley_rules.specs.Refusals.{fresh_by as fresh_given, sample_by as sample_given};
+ghost use Rattle.galley_rules.specs.Span.{span_refusal, span_rows};
 ghost use Rattle.lent.specs.Values.{number};
 ghost use Rattle.console_text.specs.Signed.{integer_of, bits_of};
 ghost use Rattle.console_outcome.specs.Outcome.{told_of, Tells};
-ghost use Rattle.console_galley.specs.Commands.{fresh_by, sample_by, galley_from, fresh_told, sample_told, span_told, span_by, dump_told, load_told};
+ghost use Rattle.console_galley.specs.Commands.{normal_by, quiet_by, fresh_by, sample_by, galley_from, fresh_told, sample_told, span_told, span_by, dump_told, load_told};
 
-use console_outcome::hand::{Hand, with_galley, with_state};
-use console_outcome::outcome::{BUFFER_BYTES, Outcome, Printed, tell, tell_as};
+use console_outcome::hand::Hand;
+use console_outcome::outcome::{BUFFER_BYTES, Outcome, tell, tell_as};
 use console_text::signed::{bits, integer, short};
-use galley_rules::{Galley, GalleyAnswer, SampleAnswer};
-use lent::{byte, flag, front, put, value};
+use galley_rows::tables::Tables;
+use galley_rules::{Galley, GalleyRefusal, Sample};
+use lent::{Page, after, byte, front, value};
 
 // A signed number of the values.
 fn signed(values: &[u32], i: usize) -> i32
@@ -18,18 +21,19 @@ fn signed(values: &[u32], i: usize) -> i32
     integer(value(values, i))
 }
 
-// The bytes after so many.
-fn after(bytes: &[u8], count: usize) -> &[u8]
-    ensures { result.now ≡ drop count bytes.now }
+// The two tables, which stand one after the other: by how many bytes each of them has.
+fn tables(bytes: &[u8], normal: u32, quiet: u32) -> Tables<'_>
+    ensures { (result.normal.now ≡ normal_by normal bytes.now) × (result.quiet.now ≡ quiet_by normal quiet bytes.now) }
 {
-    if count < bytes.len() {
-        return &bytes[count..];
+    let long = normal as usize;
+    Tables {
+        normal: front(bytes, long),
+        quiet: front(after(bytes, long), quiet as usize),
     }
-    &bytes[bytes.len()..]
 }
 
-fn fresh_by(values: &[u32]) -> GalleyAnswer
-    ensures { result ≡ fresh_by values.now }
+fn fresh_by(values: &[u32]) -> Result<Galley, GalleyRefusal>
+    ensures { fresh_given result ≡ fresh_by values.now }
 {
     galley::fresh(
         signed(values, 0),
@@ -42,72 +46,81 @@ fn fresh_by(values: &[u32]) -> GalleyAnswer
 pub fn begin(hand: Hand, values: &[u32]) -> Outcome
     ensures { Tells result (fresh_told hand values.now) }
 {
-    let answer = fresh_by(values);
-    let next = with_galley(hand, answer.galley);
-    tell(next, &[answer.refusal as u32])
+    match fresh_by(values) {
+        Ok(galley) => tell(hand.with_galley(galley), &[0]),
+        Err(refusal) => tell(
+            hand.with_galley(galley::zero_galley()),
+            &[u32::from(refusal.number())],
+        ),
+    }
 }
 
-fn sample_by(hand: Hand, values: &[u32], bytes: &[u8]) -> SampleAnswer
-    ensures { result ≡ sample_by hand values.now bytes.now }
+fn sample_by(hand: Hand, values: &[u32], bytes: &[u8]) -> Result<Sample, GalleyRefusal>
+    ensures { sample_given hand.galley hand.state result ≡ sample_by hand values.now bytes.now }
 {
-    let long = value(values, 1) as usize;
+    let tables = tables(bytes, value(values, 1), value(values, 2));
     galley::sample(
         hand.galley,
         hand.state,
         signed(values, 0),
-        front(bytes, long),
-        front(after(bytes, long), value(values, 2) as usize),
+        tables.normal,
+        tables.quiet,
     )
 }
 
 pub fn sample(hand: Hand, values: &[u32], bytes: &[u8]) -> Outcome
     ensures { Tells result (sample_told hand values.now bytes.now) }
 {
-    let answer = sample_by(hand, values, bytes);
-    let next = with_galley(with_state(hand, answer.state), answer.galley);
-    let alert = flag(answer.alert);
-    let shutdown = flag(answer.shutdown);
-    tell(next, &[answer.refusal as u32, alert, shutdown])
+    match sample_by(hand, values, bytes) {
+        Ok(sample) => tell(
+            hand.with_state(sample.state).with_galley(sample.galley),
+            &[0, u32::from(sample.alert), u32::from(sample.shutdown)],
+        ),
+        Err(refusal) => tell(hand, &[u32::from(refusal.number()), 0, 0]),
+    }
 }
 
-// One lifetime for both tables: the part is of one of them.
-fn span_of<'a>(
+// A part of the table in force, none where it is refused, with the refusal's number.
+fn part<'a>(galley: Galley, first: u32, end: u32, tables: Tables<'a>) -> (u32, &'a [u8])
+    ensures number { result.0 ≡ span_refusal galley first end tables.entry.normal.now tables.entry.quiet.now }
+    ensures rows { result.1.now ≡ span_rows galley first end tables.entry.normal.now tables.entry.quiet.now }
+{
+    match galley::rows(galley, first, end, tables.normal, tables.quiet) {
+        Ok(rows) => (0, rows),
+        Err(refusal) => (u32::from(refusal.number()), b"".as_slice()),
+    }
+}
+
+fn span_of(
     hand: Hand,
     first: u32,
     end: u32,
-    normal: &'a [u8],
-    quiet: &'a [u8],
+    tables: Tables,
     buffer: &mut [u8; BUFFER_BYTES],
 ) -> Outcome
-    ensures { told_of result buffer.new ≡ span_told hand first end normal.now quiet.now }
+    ensures { told_of result buffer.new ≡ span_told hand first end tables.entry.normal.now tables.entry.quiet.now }
 {
-    let refusal = galley::span_refusal(hand.galley, first, end, normal, quiet);
-    let part = galley::span_rows(hand.galley, first, end, normal, quiet);
-    let long = put(part, buffer, 0);
-    tell_as(hand, &[refusal as u32], false, Printed::Front(long))
+    let (refusal, rows) = part(hand.galley, first, end, tables);
+    let mut page = Page {
+        bytes: buffer,
+        at: 0,
+    };
+    page.put(rows);
+    tell_as(hand, &[refusal], false, Some(page.at))
 }
 
 pub fn span(hand: Hand, values: &[u32], bytes: &[u8], buffer: &mut [u8; BUFFER_BYTES]) -> Outcome
     ensures { told_of result buffer.new ≡ span_by hand values.now bytes.now }
 {
-    let long = value(values, 2) as usize;
-    let normal = front(bytes, long);
-    let quiet = front(after(bytes, long), value(values, 3) as usize);
-    span_of(
-        hand,
-        value(values, 0),
-        value(values, 1),
-        normal,
-        quiet,
-        buffer,
-    )
+    let tables = tables(bytes, value(values, 2), value(values, 3));
+    span_of(hand, value(values, 0), value(values, 1), tables, buffer)
 }
 
 // The 32 bits of a temperature.
 fn temperature(eighths: i16) -> u32
     ensures { result ≡ bits_of eighths }
 {
-    bits(eighths as i32)
+    bits(i32::from(eighths))
 }
 
 pub fn dump(hand: Hand) -> Outcome
@@ -115,14 +128,14 @@ pub fn dump(hand: Hand) -> Outcome
 {
     let galley = hand.galley;
     let numbers = [
-        galley.row as u32,
+        u32::from(galley.row),
         temperature(galley.temperature),
         temperature(galley.high),
         temperature(galley.over),
-        flag(galley.hysteresis),
-        flag(galley.quiet),
+        u32::from(galley.hysteresis),
+        u32::from(galley.quiet),
     ];
-    tell_as(hand, &numbers, true, Printed::Nothing)
+    tell_as(hand, &numbers, true, None)
 }
 
 // A galley made of six numbers.
@@ -142,5 +155,5 @@ fn galley_of(values: &[u32]) -> Galley
 pub fn load(hand: Hand, values: &[u32]) -> Outcome
     ensures { Tells result (load_told hand values.now) }
 {
-    tell(with_galley(hand, galley_of(values)), &[])
+    tell(hand.with_galley(galley_of(values)), &[])
 }
