@@ -14,10 +14,6 @@ front_kept : (n : ℕ) (out : List ℕ) (at : ℕ) (bytes : List ℕ) → n ≤ 
 front_kept n out at [] h = refl
 front_kept n out at (byte ∷ bytes) h = front_kept n (set out at byte) (suc at) bytes (omega arith) ∙ take-set-le n out at byte h
 
--- nothing is put
-pub no-frame : (most : ℕ) (page : Page) → Frame most page page
-no-frame most page = record { kept = refl; long = refl; grows = le_refl page.at; within = omega arith; same = refl }
-
 pub put-frame : {bytes : List ℕ} {before after : Page} → Puts bytes before after → Frame (length bytes) before after
 put-frame {bytes} {before} {after} p =
     record {

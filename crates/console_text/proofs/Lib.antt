@@ -6,4 +6,3 @@ pub mod Exact
 pub mod RoundTrip
 pub mod Lengths
 pub mod Integers
-pub mod Lines

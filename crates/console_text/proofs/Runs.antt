@@ -6,14 +6,13 @@ use mathlib.Core.List.{List, [], ◌∷◌}
 use native.Mathlib.Omega.{arith}
 use lib.ListN.{length, get_or, take, drop, length-drop, drop_of_length-le}
 use lib.Seq.{drop-cons, drop-drop}
-use lib.Dec.{eqb, ltb}
+use lib.Dec.{ltb}
 use borrow.Author.Tests.{lt-ltb, le-ltb}
 use native.Mathlib.Decide.{dec_lt}
 use Rattle.std.specs.Bool.{then_some}
 use Rattle.rules.proofs.Tests.{by-test}
-use Rattle.console_text.specs.Words.{is_blank, words_of, run_of, lengthened, counted, Finds}
-use Rattle.console_text.specs.declared.line.Word.{Word}
-use Rattle.std.specs.Prelude.{Option, Some, None}
+use Rattle.console_text.specs.Words.{is_blank, words_of, run_of, lengthened, Finds}
+use Rattle.std.specs.Prelude.{Some, None}
 
 pub run_more : (blank : Bool) (byte : ℕ) (line : List ℕ) → beq (is_blank byte) blank ≡ true → run_of blank (byte ∷ line) ≡ suc (run_of blank line)
 unfolding run_of
@@ -85,11 +84,6 @@ first_word byte (next ∷ line) e =
     rw (run_more false byte (next ∷ line) (like _ e))
     (word-goes-on byte next line e f ∙ ap (lengthened byte) (first_word next line f)))
 
--- ---- the line's end
-pub counted-within : (line : List ℕ) → counted line ≤ length line
-unfolding counted
-counted-within line = by-test (eqb (get_or line (length line - 1) 0) 13) (λ t. rw t (omega arith)) (λ f. rw f (omega arith))
-
 -- ---- the first word from an index on
 module _ (line : List ℕ) (from begin : ℕ) (skipped : begin ≡ from + run_of true (drop from line)) where
   from-begin : drop (run_of true (drop from line)) (drop from line) ≡ drop begin line
@@ -133,12 +127,3 @@ module _ (line : List ℕ) (from begin : ℕ) (skipped : begin ≡ from + run_of
             let none = rw (drop_of_length-le line {i = begin} (omega arith), run_none false) at e in
             rw (le-ltb begin end (omega arith)) (finds-nothing (omega arith))
       ]
-
--- ---- a word that was found
-module _ {line : List ℕ} {from : ℕ} {word : Option Word} (finds : Finds line from word) where
-  pub found_none : word ≡ None → words_of (drop from line) ≡ []
-  found_none e = rw e at finds.words
-
-  pub found_first : {at : Word} → word ≡ Some at →
-      words_of (drop from line) ≡ take (at.end - at.begin) (drop at.begin line) ∷ words_of (drop at.end line)
-  found_first e = rw e at finds.words

@@ -60,6 +60,7 @@ impl Gathered {
         }
     }
 
+    #[tactic(auto, unfolding(crate::specs::Words::ended_of))]
     // What the line is, by the bytes that were kept of it.
     pub fn end(self, line: &[u8]) -> Ended
         ensures { result ≡ ended_of self.kept self.total line.now }
