@@ -21,12 +21,12 @@ use Rattle.console_table.specs.declared.Request.TheVariants.{Call, Verb, View}
 use Rattle.console_table.specs.Rows.{row_in, parameters_in, FoundAs}
 use Rattle.console_table.specs.Table.{Row, Named, known, unknown, named_by}
 use Rattle.console_table.proofs.Rows.{state-numbers}
-use Rattle.console_commands.specs.declared.Reading.{Reading}
+use Rattle.console_commands.specs.declared.reading.Reading.{Reading}
 use Rattle.console_commands.specs.declared.Reason.{Reason}
 use Rattle.console_commands.specs.declared.Reason.TheVariants.{UnknownCommand, WordCount, NoRecord}
 use Rattle.console_commands.specs.declared.Parsed.TheVariants.{For as Parsed·for, Encode}
 use Rattle.console_commands.specs.Commands.{Line, reading, widened, record_by, record_of, line_by, line_of}
-use Rattle.console_commands.specs.Steps.{words_split, kind_in, ReadsAs}
+use Rattle.console_commands.specs.Steps.{words_split, kind_in, read_by}
 
 -- ---- what comes of a `?` after `ok_or`
 pub some-given : {A : Type 0} (o : Option A) (reason : Reason) {x : A} → Ok x ≡ ok_or o reason → o ≡ Some x
@@ -41,15 +41,12 @@ pub passed-on : {A : Type 0} {given : Reason} (r : Result A Reason) → IsErrAnd
 passed-on (Ok x) i = absurd i
 passed-on (Err reason) i = ap (λ (e : Reason). Err e) i
 
-refused-by : {line : Result Line Reason} {reason given : Reason} (r : Result Reading Reason) → IsErrAnd r (λ e. e ≡ given) → given ≡ reason →
-    line ≡ Err reason → ReadsAs line r
-refused-by (Ok reading) i g e = absurd i
-refused-by (Err reason) i g e = e ∙ ap (λ (x : Reason). Err x) (sym (i ∙ g))
-
 -- a line that has none of what is asked for is refused
 pub refused : {A : Type 0} {line : Result Line Reason} (o : Option A) (reason : Reason) {given : Reason} (r : Result Reading Reason) →
-    Err given ≡ ok_or o reason → IsErrAnd r (λ e. e ≡ given) → (o ≡ None → line ≡ Err reason) → ReadsAs line r
-refused o reason r e i none = let is = none-given o reason e in refused-by r i is.1 (none is.0)
+    Err given ≡ ok_or o reason → IsErrAnd r (λ e. e ≡ given) → (o ≡ None → line ≡ Err reason) → read_by r ≡ line
+refused o reason r e i none =
+    let is = none-given o reason e in
+    rw (passed-on r i) (sym (none is.0 ∙ ap (λ (x : Reason). Err x) (sym is.1)))
 
 -- ---- the row that the first word names, if there is one
 not_found : (named : Named) (found : Option Found) → FoundAs named found → found ≡ None → named ≡ unknown
@@ -75,26 +72,26 @@ has-row word (known i row) found e n f =
       few = let few = rw (← is.same) at is.few in omega (arith, few, state-numbers);
     }
 
-module _ {all : List (List ℕ)} {split : Option (Bor (List ℕ) × Bor (List ℕ))} (e : all ≡ words_split split) where
+module _ {all : List (List ℕ)} (split : Option (Bor (List ℕ) × Bor (List ℕ))) (e : all ≡ words_split split) where
   pub no_word : split ≡ None → all ≡ []
   no_word n = rw n at e
 
-  module _ {word rest : Bor (List ℕ)} (s : split ≡ Some (word, rest)) where
+  module _ (reason : Reason) {word rest : Bor (List ℕ)} (s : Ok (word, rest) ≡ ok_or split reason) where
     first : all ≡ word.now ∷ words_of rest.now
-    first = rw s at e
+    first = rw (some-given split reason s) at e
 
-    pub has : {result : Option Found} (found : Found) → FoundAs (named_by word.now) result → result ≡ Some found →
-        Has all (words_of rest.now) found
-    has found f r = has-row word.now (named_by word.now) found first refl (rw r at f)
+    module _ (result : Option Found) (f : FoundAs (named_by word.now) result) where
+      pub has : (unnamed : Reason) {found : Found} → Ok found ≡ ok_or result unnamed → Has all (words_of rest.now) found
+      has unnamed {found} r = has-row word.now (named_by word.now) found first refl (rw (some-given result unnamed r) at f)
 
-    module _ {found : Option Found} (f : FoundAs (named_by word.now) found) (none : found ≡ None) where
-      pub not-named : line_of all ≡ Err UnknownCommand
-      unfolding line_of
-      not-named = rw (first, not_found (named_by word.now) found f none)
+      module _ (none : result ≡ None) where
+        pub not-named : line_of all ≡ Err UnknownCommand
+        unfolding line_of
+        not-named = rw (first, not_found (named_by word.now) result f none)
 
-      pub not-named-record : (place : ℕ) → record_of place all ≡ Err NoRecord
-      unfolding record_of
-      not-named-record place = rw (first, not_found (named_by word.now) found f none)
+        pub not-named-record : (place : ℕ) → record_of place all ≡ Err NoRecord
+        unfolding record_of
+        not-named-record place = rw (first, not_found (named_by word.now) result f none)
 
 pub none-read : (all : List (List ℕ)) → all ≡ [] → line_of all ≡ Err UnknownCommand
 unfolding line_of

@@ -137,7 +137,7 @@ parsed_as line (Ok taken) = Ok line
 parsed_as line (Err reason) = Err reason
 
 -- it has as many words as parameters
-abbrev counted : Line → Bool
+abbrev pub counted : Line → Bool
 counted line = eqb (length line.words) (length line.parameters)
 
 abbrev pub parsed_by : Result Line Reason → Result Parsed Reason

@@ -1,14 +1,13 @@
 -- How the source reads a line: its first word, and by what the words after a command are taken.
-use Rattle.std.specs.Prelude.{ℕ, ◌≤◌, ◌≡◌, List, [], ◌∷◌, length, Option, Some, None, Result, Ok, Err}
+use Rattle.std.specs.Prelude.{ℕ, List, [], ◌∷◌, Option, Some, None, Result, Ok, Err}
 use denote.Ref.{Bor}
-use Rattle.numbers.specs.Numbers.{number_count}
 use Rattle.console_text.specs.Words.{words_of}
 use Rattle.strings.specs.declared.kind.Kind.{Kind}
 use Rattle.console_table.specs.declared.Asks.{Asks}
 use Rattle.console_table.specs.declared.Asks.TheVariants.{For, Record}
 use Rattle.console_table.specs.declared.Request.TheVariants.{Call, Verb, View}
 use Rattle.console_table.specs.Rows.{parameters_in}
-use Rattle.console_commands.specs.declared.Reading.{Reading}
+use Rattle.console_commands.specs.declared.reading.Reading.{Reading}
 use Rattle.console_commands.specs.declared.Reason.{Reason}
 use Rattle.console_commands.specs.Commands.{Line}
 
@@ -34,7 +33,6 @@ line_in reading =
       words = words_of reading.words.now;
     }
 
--- a line is read so: with no more parameters than a state has numbers, which begin at the second word or the third
-abbrev pub ReadsAs : Result Line Reason → Result Reading Reason → Type 0
-ReadsAs line (Ok reading) = (line ≡ Ok (line_in reading)) × (length (parameters_in reading.parameters) ≤ number_count) × (reading.first ≤ 3)
-ReadsAs line (Err reason) = line ≡ Err reason
+abbrev pub read_by : Result Reading Reason → Result Line Reason
+read_by (Ok reading) = Ok (line_in reading)
+read_by (Err reason) = Err reason
