@@ -1,16 +1,23 @@
 -- The words of a line one by one, and what is taken of them.
 use Prim.Native.Nat.{ℕ, zero, suc, ◌+◌}
 use mathlib.Core.Path.{◌≡◌, refl, ◌∙◌}
-use mathlib.Core.List.{List, [], ◌∷◌, ◌++◌}
+use mathlib.Core.List.{List, [], ◌∷◌, ◌++◌, map}
 use mathlib.Core.Logic.{◌⊎◌, inl, inr}
 use native.Mathlib.Omega.{arith}
 use native.Mathlib.Numerals.{add-one}
-use lib.ListN.{drop, set, drop_of_length-le}
+use lib.ListN.{drop, set, replicate, drop_of_length-le}
+use denote.Ref.{Bor}
 use lib.Seq.{sets, drop-cons}
 use Rattle.std.specs.Prelude.{Some, None, Ok, Err}
 use Rattle.std.specs.List.{slice_get}
 use Rattle.std.proofs.lemmas.Option.{slice_get_within, get_or_from_slice_get}
+use Rattle.numbers.specs.Numbers.{limits}
 use Rattle.console_table.specs.declared.Parameter.{Parameter}
+use Rattle.console_table.specs.declared.Parameter.TheVariants.{Number}
+use Rattle.console_table.specs.declared.Parameters.{Parameters}
+use Rattle.console_table.specs.declared.Parameters.TheVariants.{Listed, StateNumbers, Any}
+use Rattle.console_table.specs.Table.{any, state_numbers}
+use Rattle.console_table.specs.Rows.{parameters_in}
 use Rattle.console_commands.specs.declared.Reason.{Reason}
 use Rattle.console_commands.specs.Commands.{value_of, taken_of, numbers_of, bytes_as, bytes_in}
 
@@ -68,3 +75,23 @@ pub one-put : (parameters : List Parameter) (i : ℕ) {parameter : Parameter} �
     bytes_in (drop i parameters) words ≡ bytes_as parameter word ++ bytes_in (drop (i + 1) parameters) rest
 unfolding bytes_in
 one-put parameters i p e = rw (from-here parameters i p, e)
+
+-- ---- parameters that are not listed are numbers, which have no bytes
+numbers-bytes : (limits : List ℕ) (words : List (List ℕ)) → bytes_in (map (λ most. Number most) limits) words ≡ []
+unfolding bytes_in
+numbers-bytes [] words = refl
+numbers-bytes (most ∷ limits) [] = refl
+numbers-bytes (most ∷ limits) (word ∷ words) = numbers-bytes limits words
+
+any-bytes : (count : ℕ) (words : List (List ℕ)) → bytes_in (replicate count any) words ≡ []
+unfolding bytes_in
+any-bytes zero words = refl
+any-bytes (suc count) [] = refl
+any-bytes (suc count) (word ∷ words) = any-bytes count words
+
+pub unlisted : (parameters : Parameters) (words : List (List ℕ)) → ((listed : Bor (List Parameter)) → parameters ≡ Listed listed → ⊥) →
+    bytes_in (parameters_in parameters) words ≡ []
+unfolding state_numbers
+unlisted (Listed listed) words n = absurd (n listed refl)
+unlisted StateNumbers words n = numbers-bytes limits words
+unlisted (Any count) words n = any-bytes count words

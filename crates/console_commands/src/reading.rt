@@ -90,17 +90,19 @@ impl<'a> Reading<'a> {
         Ok(())
     }
 
-    // Puts the bytes of all bytes parameters, one after the other.
+    // Puts the bytes of all bytes parameters, one after the other. Only listed parameters have any.
     pub(crate) fn put_strings(self, page: &mut Page)
         ensures { let line = line_in self.entry in Puts (bytes_in line.parameters line.words) page.old page.new }
     {
+        let Parameters::Listed(parameters) = self.parameters else {
+            return;
+        };
         let mut rest = self.words;
-        for i in 0..self.parameters.count() {
-            let (Some(parameter), Some((word, after))) = (self.parameters.get(i), split_word(rest))
-            else {
+        for parameter in parameters {
+            let Some((word, after)) = split_word(rest) else {
                 break;
             };
-            put_parameter(page, word, parameter);
+            put_parameter(page, word, *parameter);
             rest = after;
         }
     }

@@ -1,28 +1,29 @@
--- The bytes of one more word are put, or none is left.
-use Rattle.std.proofs.Common.{drop, sym, ◌∙◌, inl, inr, arith}
+-- The bytes of one more word are put, or none is left; only listed parameters have bytes.
+use Rattle.std.proofs.Common.{drop, refl, inl, inr, arith}
 use lib.ListN.{drop_of_length-le}
+use Rattle.std.proofs.lemmas.Option.{slice_get-get_or}
 use Rattle.lent.proofs.Stores.{part-puts, none-rests}
-use Rattle.console_table.specs.Rows.{parameters_in}
-use Rattle.console_commands.proofs.Taking.{from-past, nothing-left, one-put}
+use Rattle.console_table.specs.declared.Parameter.TheVariants.{Number}
+use Rattle.console_commands.proofs.Taking.{nothing-left, one-put, unlisted}
 use Rattle.console_commands.proofs.reading.Reading.put_strings.Goals as goal
-
-pub loop-i-preserved : goal.loop-i-preserved
-loop-i-preserved c =
-    let loop = c.loop-i in
-    let put = one-put (parameters_in c.args.self.parameters) loop.i (sym c.get.ensures ∙ c.in-Some-Some.is-0) c.in-Some-Some.ensures' in
-    part-puts _ _ (rw put at loop.invariant) c.put_parameter.ensures
-
-pub returns-after-loop-i : goal.returns-after-loop-i
-returns-after-loop-i c =
-    let past = drop_of_length-le (parameters_in c.args.self.parameters) {i = c.loop-i.i} (omega arith) in
-    none-rests (rw (nothing-left _ _ 0 (inl past)).2 at c.loop-i.invariant)
 
 pub returns-in_default : goal.returns-in_default
 returns-in_default c =
-    let none = nothing-left (drop c.loop-i.i (parameters_in c.args.self.parameters)) _ 0 (inr (rw c.in_default.is-1 at c.split_word.ensures)) in
-    none-rests (rw none.2 at c.loop-i.invariant)
+    rw (unlisted _ _ c.in_default.not-Listed) (record { put = record { stored = refl; index = omega arith }; same = refl })
 
-pub returns-in_default-2 : goal.returns-in_default-2
-returns-in_default-2 c =
-    let past = from-past (parameters_in c.args.self.parameters) c.loop-i.i (sym c.get.ensures ∙ c.in_default.is-0) in
-    none-rests (rw (nothing-left _ _ 0 (inl past)).2 at c.loop-i.invariant)
+pub loop-parameter-preserved : goal.loop-parameter-preserved
+loop-parameter-preserved c =
+    let loop = c.loop-parameter in
+    let here = slice_get-get_or c.in-Listed.parameters.now loop.parameter-index (Number 0) c.loop-parameter-test.true in
+    let put = one-put c.in-Listed.parameters.now loop.parameter-index here c.in-Some.ensures in
+    part-puts _ _ (rw put at loop.invariant) c.put_parameter.ensures
+
+pub returns-after-loop-parameter : goal.returns-after-loop-parameter
+returns-after-loop-parameter c =
+    let past = drop_of_length-le c.in-Listed.parameters.now {i = c.loop-parameter.parameter-index} (omega arith) in
+    rw c.in-Listed.is (none-rests (rw (nothing-left _ _ 0 (inl past)).2 at c.loop-parameter.invariant))
+
+pub returns-in_default-split_word : goal.returns-in_default-split_word
+returns-in_default-split_word c =
+    let none = nothing-left (drop c.loop-parameter.parameter-index c.in-Listed.parameters.now) _ 0 (inr c.in_default-split_word.ensures) in
+    rw c.in-Listed.is (none-rests (rw none.2 at c.loop-parameter.invariant))
