@@ -118,14 +118,11 @@ fn valid_timer(code: u8, timer: Timer) -> bool
 pub fn valid(state: State) -> bool
     ensures { result ≡ valid_of state }
 {
-    let registers = state.registers;
-    let start = state.start;
-    let timer = state.timer;
-    let channels = state.channels;
-    let pulses = valid_pulses(ends_early(start.modification), channels);
-    valid_registers(registers)
-        & valid_start(start)
-        & valid_timer(watchdog_code(registers.control), timer)
-        & valid_channels(standby(registers.control), channels)
+    let control = state.registers.control;
+    let pulses = valid_pulses(ends_early(state.start.modification), state.channels);
+    valid_registers(state.registers)
+        & valid_start(state.start)
+        & valid_timer(watchdog_code(control), state.timer)
+        & valid_channels(standby(control), state.channels)
         & pulses
 }

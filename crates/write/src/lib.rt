@@ -104,7 +104,7 @@ fn box_written(state: State, byte: u8, register: BoxRegister) -> State
         ..state
     };
     match register {
-        BoxRegister::Control if byte / 64 % 2 == 1 => {
+        BoxRegister::Control if (byte >> 6) & 1 == 1 => {
             as_at_start(state.start, state.timer.clock, state.pin)
         }
         BoxRegister::Control if standby(byte) => State {
