@@ -1,5 +1,5 @@
 -- A call as a value: one of those that are handed a state is made, or a list of them one after the other.
-use Rattle.std.specs.Prelude.{ℕ, ◌≡◌, true, List, [], ◌∷◌, map, Option, None, Some, Result, Ok, Err}
+use Rattle.std.specs.Prelude.{ℕ, ◌≡◌, Bool, true, false, List, [], ◌∷◌, map, Option, None, Some, Result, Ok, Err}
 use Rattle.rules.specs.Types.{State, Target, Answer, ReadAnswer, Refusal, Made, Call, Write, Read, Ticks, Tachometer, Pin, WriteWord, Pulse}
 use Rattle.rules.specs.Valid.{valid_of, if_valid}
 use Rattle.rules.specs.Words.{duty_word}
@@ -16,6 +16,16 @@ use Rattle.rules.specs.Pulse.{pulse_of}
 -- a call that reads nothing answers byte 0
 abbrev pub without_byte : Answer → ReadAnswer
 without_byte a = read_answer a.refusal 0 a.state
+
+-- a call answers with a byte exactly when it is a read
+abbrev pub is_read : Call → Bool
+is_read (Write a b) = false
+is_read (Read a) = true
+is_read (Ticks n) = false
+is_read (Tachometer n count) = false
+is_read (Pin high) = false
+is_read (WriteWord a word) = false
+is_read (Pulse n) = false
 
 -- what a call answers, by its result in the code
 abbrev pub byte_or_0 : Option ℕ → ℕ

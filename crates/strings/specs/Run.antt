@@ -3,8 +3,8 @@ use Rattle.std.specs.Prelude.{ℕ, zero, suc, ◌+◌, Bool, true, false, not, L
 use Rattle.rules.specs.Calls.{accepted, state_not_valid}
 use Rattle.rules.specs.Valid.{valid_of}
 use Rattle.rules.specs.Make.{made}
+pub use Rattle.rules.specs.Make.{is_read}
 use Rattle.strings.specs.String.{Front, whole, end, refused, front_of}
-use Rattle.rules.specs.declared.Call.TheVariants.{Write, Read, Ticks, Tachometer, Pin, WriteWord, Pulse}
 use Rattle.strings.specs.Types.{State, ReadAnswer, Call, RunAnswer}
 
 -- "15 answer buffer shorter than the string, nothing done"
@@ -26,16 +26,6 @@ ran refusal taken answers s = record { refusal = refusal; taken = taken; answers
 -- a run that goes on after so many records and their answers
 abbrev pub after : ℕ → List ℕ → Ran → Ran
 after taken answers r = ran r.refusal (taken + r.taken) (answers ++ r.answers) r.state
-
--- a call answers with a byte exactly when it is a read
-abbrev pub is_read : Call → Bool
-is_read (Write address byte) = false
-is_read (Read address) = true
-is_read (Ticks n) = false
-is_read (Tachometer channel count) = false
-is_read (Pin high) = false
-is_read (WriteWord address word) = false
-is_read (Pulse channel) = false
 
 -- the answer bytes of a call that was accepted
 abbrev pub answer_bytes : Call → ReadAnswer → List ℕ
