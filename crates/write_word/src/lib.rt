@@ -29,6 +29,7 @@ fn target_written(channel: Channel, word: u16, register: WordRegister) -> Channe
     }
 }
 
+// Alike `own_written` of write but for what is written: one function for both would be handed that as a closure, and be no shorter.
 fn own_word_written(state: State, word: u16, register: WordRegister, i: ChannelIndex) -> State
     ensures { result ≡ own_word_written state word register i }
 {
@@ -52,7 +53,7 @@ fn word_at(state: State, word: u16, place: Place) -> Result<State, Refusal>
     }
 }
 
-// A word goes to an address.
+// A word goes to an address. Alike `write` but for what is done at the place: one function for both would be no shorter.
 #[tactic(auto, unfolding(rules::specs::WriteWord::write_word_of))]
 pub fn write_word(state: State, address: u32, word: u16) -> Result<State, Refusal>
     ensures { answer_by state result ≡ write_word_of state address word }
