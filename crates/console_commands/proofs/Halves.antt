@@ -6,6 +6,7 @@ use native.Mathlib.Omega.{arith}
 use lib.ListN.{length, length-append}
 use lib.Dec.{eqb}
 use Rattle.rules.proofs.Tests.{by-test}
+use Rattle.std.specs.Prelude.{Option, Some, None}
 use Rattle.console_text.specs.Words.{is_blank, parted, lengthened, words_of}
 use Rattle.console_hex.proofs.Pairs.{spelled-half}
 use Rattle.console_table.specs.declared.Asks.{Asks}
@@ -15,7 +16,7 @@ use Rattle.console_table.specs.declared.Parameter.TheVariants.{Number, Signed, B
 use Rattle.console_table.specs.declared.Request.TheVariants as request
 use Rattle.console_commands.specs.declared.Parsed.{Parsed}
 use Rattle.console_commands.specs.declared.Parsed.TheVariants as parsed
-use Rattle.console_table.specs.Table.{Row, Named, known, unknown, named_by}
+use Rattle.console_table.specs.Table.{Row, Named, named_by}
 use Rattle.console_commands.specs.Commands.{bytes_as, bytes_in, reading, widened, record_by, record_as, record_of, line_by, line_as, line_of, bytes_by, bytes_of, NoneLeftOut}
 
 -- how many bytes words have together: no more than their line
@@ -61,9 +62,9 @@ record-half-by i row (For (request.Verb verb)) words = omega arith
 record-half-by i row (For (request.View view)) words = omega arith
 record-half-by i row Record words = omega arith
 
-record-half-as : (named : Named) (words : List (List ℕ)) → 2 * length (bytes_by (record_as named words)) ≤ total words
-record-half-as unknown words = omega arith
-record-half-as (known i row) words = record-half-by i row row.asks words
+record-half-as : (named : Option Named) (words : List (List ℕ)) → 2 * length (bytes_by (record_as named words)) ≤ total words
+record-half-as None words = omega arith
+record-half-as (Some named) words = record-half-by named.place named.row named.row.asks words
 
 record-half : (i : ℕ) (words : List (List ℕ)) → 2 * length (bytes_by (record_of i words)) ≤ total words
 unfolding record_of
@@ -74,9 +75,9 @@ asks-half : (i : ℕ) (row : Row) (asks : Asks) (words : List (List ℕ)) → 2 
 asks-half i row (For asked) words = reading-half i (parsed.For asked) row.parameters 2 words
 asks-half i row Record words = record-half i words
 
-named-half : (named : Named) (words : List (List ℕ)) → 2 * length (bytes_by (line_as named words)) ≤ total words
-named-half unknown words = omega arith
-named-half (known i row) words = asks-half i row row.asks words
+named-half : (named : Option Named) (words : List (List ℕ)) → 2 * length (bytes_by (line_as named words)) ≤ total words
+named-half None words = omega arith
+named-half (Some named) words = asks-half named.place named.row named.row.asks words
 
 line-half : (words : List (List ℕ)) → 2 * length (bytes_of words) ≤ total words
 unfolding bytes_of line_of

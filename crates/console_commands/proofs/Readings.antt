@@ -19,7 +19,7 @@ use Rattle.console_table.specs.declared.Parameter.{Parameter}
 use Rattle.console_table.specs.declared.Request.{Request}
 use Rattle.console_table.specs.declared.Request.TheVariants.{Call, Verb, View}
 use Rattle.console_table.specs.Rows.{row_in, parameters_in, FoundAs}
-use Rattle.console_table.specs.Table.{Row, Named, known, unknown, named_by}
+use Rattle.console_table.specs.Table.{Row, Named, known, named_by}
 use Rattle.console_table.proofs.Rows.{state-numbers}
 use Rattle.console_commands.specs.declared.reading.Reading.{Reading}
 use Rattle.console_commands.specs.declared.Reason.{Reason}
@@ -49,9 +49,9 @@ refused o reason r e i none =
     rw (passed-on r i) (sym (none is.0 ∙ ap (λ (x : Reason). Err x) (sym is.1)))
 
 -- ---- the row that the first word names, if there is one
-not_found : (named : Named) (found : Option Found) → FoundAs named found → found ≡ None → named ≡ unknown
-not_found unknown found f e = refl
-not_found (known i row) found f e = absurd (rw e at f)
+not_found : (named : Option Named) (found : Option Found) → FoundAs named found → found ≡ None → named ≡ None
+not_found None found f e = refl
+not_found (Some named) found f e = absurd (rw e at f)
 
 -- the first word of all names a row, and these words come after it
 pub record Has (all words : List (List ℕ)) (found : Found) : Type 0 where
@@ -60,10 +60,10 @@ pub record Has (all words : List (List ℕ)) (found : Found) : Type 0 where
   pub named : named_by word ≡ known found.place (row_in found.row.now)
   pub few : length (parameters_in found.row.now.parameters) ≤ number_count
 
-has-row : {all words : List (List ℕ)} (word : List ℕ) (named : Named) (found : Found) → all ≡ word ∷ words → named_by word ≡ named →
+has-row : {all words : List (List ℕ)} (word : List ℕ) (named : Option Named) (found : Found) → all ≡ word ∷ words → named_by word ≡ named →
     FoundAs named (Some found) → Has all words found
-has-row word unknown found e n f = absurd f
-has-row word (known i row) found e n f =
+has-row word None found e n f = absurd f
+has-row word (Some named) found e n f =
     let is = f.2 in
     record {
       word = word;

@@ -77,11 +77,11 @@ unfolding bytes_in
 one-put parameters i p e = rw (from-here parameters i p, e)
 
 -- ---- parameters that are not listed are numbers, which have no bytes
-numbers-bytes : (limits : List ℕ) (words : List (List ℕ)) → bytes_in (map (λ most. Number most) limits) words ≡ []
+numbers-bytes : (each : List ℕ) (words : List (List ℕ)) → bytes_in (map (λ most. Number most) each) words ≡ []
 unfolding bytes_in
 numbers-bytes [] words = refl
-numbers-bytes (most ∷ limits) [] = refl
-numbers-bytes (most ∷ limits) (word ∷ words) = numbers-bytes limits words
+numbers-bytes (most ∷ each) [] = refl
+numbers-bytes (most ∷ each) (word ∷ words) = numbers-bytes each words
 
 any-bytes : (count : ℕ) (words : List (List ℕ)) → bytes_in (replicate count any) words ≡ []
 unfolding bytes_in

@@ -20,7 +20,7 @@ use Rattle.console_commands.specs.declared.Reason.{Reason}
 use Rattle.console_commands.specs.declared.Reason.TheVariants.{UnknownCommand, WordCount, NotNumber, TooLarge, TooSmall, NotBytes, NoRecord, LineTooLong}
 use Rattle.console_commands.specs.declared.Parsed.{Parsed}
 use Rattle.console_commands.specs.declared.Parsed.TheVariants as parsed
-use Rattle.console_table.specs.Table.{Row, any, Named, known, unknown, named_by}
+use Rattle.console_table.specs.Table.{Row, any, Named, named_by}
 
 -- ---- its parameters
 
@@ -109,9 +109,9 @@ record_by i row (For (request.Verb verb)) words = Err NoRecord
 record_by i row (For (request.View view)) words = Err NoRecord
 record_by i row Record words = Err NoRecord
 
-abbrev pub record_as : Named → List (List ℕ) → Result Line Reason
-record_as unknown words = Err NoRecord
-record_as (known i row) words = record_by i row row.asks words
+abbrev pub record_as : Option Named → List (List ℕ) → Result Line Reason
+record_as None words = Err NoRecord
+record_as (Some named) words = record_by named.place named.row named.row.asks words
 
 -- the words after `encode`, whose row stands at a place
 unfoldable pub record_of : ℕ → List (List ℕ) → Result Line Reason
@@ -122,9 +122,9 @@ abbrev pub line_by : ℕ → Row → Asks → List (List ℕ) → Result Line Re
 line_by i row (For request) words = reading i (parsed.For request) row.parameters 2 words
 line_by i row Record words = record_of i words
 
-abbrev pub line_as : Named → List (List ℕ) → Result Line Reason
-line_as unknown words = Err UnknownCommand
-line_as (known i row) words = line_by i row row.asks words
+abbrev pub line_as : Option Named → List (List ℕ) → Result Line Reason
+line_as None words = Err UnknownCommand
+line_as (Some named) words = line_by named.place named.row named.row.asks words
 
 unfoldable pub line_of : List (List ℕ) → Result Line Reason
 line_of [] = Err UnknownCommand

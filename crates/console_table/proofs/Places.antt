@@ -1,6 +1,6 @@
 -- The rows of each part of the table stand from the part's first place on; and the names one after the other, eight places each.
 use Prim.Native.Nat.{ℕ, zero, suc, ◌+◌, ◌-◌, ◌*◌, ◌≤◌, ◌<◌}
-use mathlib.Core.Path.{◌≡◌, refl, sym, ap, ◌∙◌}
+use mathlib.Core.Path.{◌≡◌, refl, ap, ◌∙◌}
 use mathlib.Core.Bool.{Bool, true, ◌&&◌}
 use mathlib.Core.List.{List, [], ◌∷◌, ◌++◌, map}
 use native.Mathlib.Omega.{arith}
@@ -94,7 +94,7 @@ abbrev pub row_count : ℕ
 row_count = 26
 
 -- at each place the table of names has the row's name and its length, which is at most eight
-name-here : ℕ → Bool
+pub name-here : ℕ → Bool
 name-here i =
     eqb (get_or name_table (9 * i + 8) 0) (48 + length (name_at i))
     && (leb (length (name_at i)) 8 && bytes_eq (take (length (name_at i)) (drop (9 * i) name_table)) (name_at i))

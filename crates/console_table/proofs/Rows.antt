@@ -18,7 +18,7 @@ use Rattle.std.proofs.lemmas.Iterator.Adapters.{position_from-zero}
 use Rattle.console_table.specs.declared.Asks.TheVariants.{Record}
 use Rattle.console_table.specs.declared.Command.{Command}
 use Rattle.console_table.specs.declared.Found.{Found}
-use Rattle.console_table.specs.Table.{Row, commands, state_numbers, name_of, Named, known, unknown, named_among, named_by, usage_at}
+use Rattle.console_table.specs.Table.{Row, commands, state_numbers, name_of, Named, known, named_among, named_by, usage_at}
 use Rattle.console_table.specs.Rows.{row_in, Describe, FoundAs}
 
 -- as many rows
@@ -47,12 +47,12 @@ module _ (word : List ℕ) where
   has-name command = bytes_eq word command.name.now
 
   -- among rows of the source from an index on
-  abbrev Names : List Command → ℕ → Option ℕ → Named → Type 0
+  abbrev Names : List Command → ℕ → Option ℕ → Option Named → Type 0
   Names source i place named =
-      MatchOption place (named ≡ unknown)
+      MatchOption place (named ≡ None)
       (λ at. (d : Command) → (i ≤ at) × (at < i + length source) × (named ≡ known at (row_in (get_or source (at - i) d))))
 
-  names-later : (command : Command) (source : List Command) (i : ℕ) (place : Option ℕ) (named : Named) →
+  names-later : (command : Command) (source : List Command) (i : ℕ) (place : Option ℕ) (named : Option Named) →
       Names source (i + 1) place named → Names (command ∷ source) i place named
   names-later command source i None named h = h
   names-later command source i (Some at) named h =
@@ -81,7 +81,7 @@ module _ (word : List ℕ) where
         rw (position_from-zero has-name source) (rw d.same at (names-among source 0 own))
 
     pub found-none : position has-name source ≡ None → FoundAs (named_by word) None
-    found-none e = let none : named_by word ≡ unknown = rw e at names-all in rw none tt
+    found-none e = let none : named_by word ≡ None = rw e at names-all in rw none tt
 
     module _ (place : ℕ) (e : position has-name source ≡ Some place) (c : Command) where
       names-place : (0 ≤ place) × (place < length source) × (named_by word ≡ known place (row_in (get_or source place c)))

@@ -5,7 +5,7 @@ use Rattle.console_table.specs.declared.Parameters.{Parameters}
 use Rattle.console_table.specs.declared.Parameters.TheVariants.{Listed, StateNumbers, Any}
 use Rattle.console_table.specs.declared.Command.{Command}
 use Rattle.console_table.specs.declared.Found.{Found}
-use Rattle.console_table.specs.Table.{Row, any, commands, name_of, state_numbers, Named, known, unknown}
+use Rattle.console_table.specs.Table.{Row, any, commands, name_of, state_numbers, Named}
 
 -- a command's parameters as the source holds them
 abbrev pub parameters_in : Parameters → List Parameter
@@ -28,8 +28,8 @@ pub record Is (command : Command) (row : Row) : Type 0 where
   pub few : length row.parameters ≤ length state_numbers
 
 -- what a search gives
-abbrev pub FoundAs : Named → Option Found → Type 0
-FoundAs unknown None = Unit {0}
-FoundAs unknown (Some found) = ⊥
-FoundAs (known i row) None = ⊥
-FoundAs (known i row) (Some found) = (found.place ≡ i) × (i < length commands) × Is found.row.now row
+abbrev pub FoundAs : Option Named → Option Found → Type 0
+FoundAs None None = Unit {0}
+FoundAs None (Some found) = ⊥
+FoundAs (Some named) None = ⊥
+FoundAs (Some named) (Some found) = (found.place ≡ named.place) × (named.place < length commands) × Is found.row.now named.row

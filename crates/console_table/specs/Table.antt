@@ -1,5 +1,5 @@
 -- The table of the commands: "| Line | Answer |".
-use Rattle.std.specs.Prelude.{ℕ, ◌+◌, false, List, [], ◌∷◌, ◌++◌, map, get_or, take, bytes_eq, if◌then◌else◌}
+use Rattle.std.specs.Prelude.{ℕ, ◌+◌, false, List, [], ◌∷◌, ◌++◌, map, get_or, take, bytes_eq, if◌then◌else◌, Option, Some, None}
 use Prim.Native.String.{String}
 use Rattle.console_text.specs.Ascii.{ascii}
 use Rattle.console_text.specs.Words.{run_of}
@@ -100,15 +100,18 @@ abbrev pub name_of : Row → List ℕ
 name_of row = take (run_of false row.usage) row.usage
 
 -- the row that a word names, and its place in the table
-pub data Named : Type 0 where
-  known : ℕ → Row → Named
-  unknown : Named
+pub record Named : Type 0 where
+  pub place : ℕ
+  pub row : Row
 
-unfoldable pub named_among : List Row → ℕ → List ℕ → Named
-named_among [] i word = unknown
+abbrev pub known : ℕ → Row → Option Named
+known i row = Some (record { place = i; row = row })
+
+unfoldable pub named_among : List Row → ℕ → List ℕ → Option Named
+named_among [] i word = None
 named_among (row ∷ rows) i word = if bytes_eq word (name_of row) then known i row else named_among rows (i + 1) word
 
-unfoldable pub named_by : List ℕ → Named
+unfoldable pub named_by : List ℕ → Option Named
 named_by word = named_among commands 0 word
 
 -- how the command at a place is written
