@@ -1,91 +1,94 @@
 // Orders by the string: a run reads the records of a lent string and makes their calls. The definitions stand in `strings`.
 #![tactic(auto)]
 
-ghost use Rattle.std.specs.Prelude.{◌≡◌, ◌≤◌, ◌<◌, length};
+ghost use Rattle.std.specs.Prelude.{◌≡◌, ◌≤◌, length};
+ghost use Rattle.strings.specs.Refusals.{run_by};
 ghost use Rattle.strings.specs.Run.{is_read, run_on, run_of, given, ended};
-ghost use Rattle.orders.specs.Steps.{Kept};
+ghost use Rattle.orders.specs.Steps.{Takes};
 
 use records::reader::next_at;
-use rules::{ACCEPTED, Call, STATE_NOT_VALID, State};
-use strings::{ANSWERS_TOO_SHORT, Found, RunAnswer};
+use rules::{Call, Made, Refusal, State};
+use strings::{RunAnswer, RunRefusal};
 
-fn stop(refusal: u8, taken: u32, answered: usize, state: State) -> RunAnswer
-    ensures { result ≡ record { refusal = refusal; taken = taken; answered = answered; state = state } }
-{
-    RunAnswer {
-        refusal: refusal,
-        taken: taken,
-        answered: answered,
-        state: state,
-    }
+// A record whose call has been made: what that gave, and the index after the record.
+#[derive(Clone, Copy)]
+struct Taken {
+    made: Made,
+    next: usize,
 }
 
 // Whether a call answers with a byte.
 pub fn is_read(call: Call) -> bool
     ensures { result ≡ is_read call }
 {
-    match call {
-        Call::Write(_, _) => false,
-        Call::Read(_) => true,
-        Call::Ticks(_) => false,
-        Call::Tachometer(_, _) => false,
-        Call::Pin(_) => false,
-        Call::WriteWord(_, _) => false,
-        Call::Pulse(_) => false,
+    matches!(call, Call::Read(_))
+}
+
+// Makes the call of the record at an index, if the string has not ended there.
+fn take(state: State, string: &[u8], at: usize) -> Result<Option<Taken>, RunRefusal>
+    ensures { Takes result state string.now at }
+{
+    let Some(found) = next_at(string, at)? else {
+        return Ok(None);
+    };
+    let made = calls::make(state, found.call)?;
+    Ok(Some(Taken {
+        made,
+        next: found.next,
+    }))
+}
+
+// A run that has taken nothing.
+fn begun(state: State) -> RunAnswer
+    ensures { result ≡ record { outcome = Ok tt; taken = 0; answered = 0; state = state } }
+{
+    RunAnswer {
+        outcome: Ok(()),
+        taken: 0,
+        answered: 0,
+        state,
     }
 }
 
-// Keeps an answer byte where one was read, and gives how many are kept then.
-fn keep(read: bool, byte: u8, answers: &mut [u8], answered: usize) -> usize
-    requires { answered < length answers.old }
-    ensures { Kept read byte answered result answers.old answers.new }
+// Takes the records of a string, as many as allowed, for a run that has taken none and has room for the answers.
+fn take_records(
+    run: &mut RunAnswer,
+    string: &[u8],
+    allowance: u32,
+    answers: &mut [u8],
+) -> Result<(), RunRefusal>
+    requires none_taken { (run.old.taken ≡ 0) × (run.old.answered ≡ 0) }
+    requires room { length string.now ≤ length answers.old }
+    ensures { given (run_by (record run.new { outcome = result })) answers.new
+        ≡ ended (run_on allowance run.old.state string.now) answers.old }
 {
-    if read {
-        answers[answered] = byte;
-        return answered + 1;
-    }
-    answered
-}
-
-// A run with room for the answers.
-fn run_records(state: State, string: &[u8], allowance: u32, answers: &mut [u8]) -> RunAnswer
-    requires { length string.now ≤ length answers.old }
-    ensures { given result answers.new ≡ ended (run_on allowance state string.now) answers.old }
-{
-    let mut state = state;
-    let mut taken: u32 = 0;
-    let mut answered: usize = 0;
-    let mut at: usize = 0;
-    while taken < allowance {
-        let found = next_at(string, at);
-        match found {
-            Found::End => return stop(ACCEPTED, taken, answered, state),
-            Found::Refused(refusal) => return stop(refusal, taken, answered, state),
-            Found::Record(call, next) => {
-                let made = calls::make(state, call);
-                let refusal = made.refusal;
-                if refusal != ACCEPTED {
-                    return stop(refusal, taken, answered, state);
-                }
-                answered = keep(is_read(call), made.byte, answers, answered);
-                state = made.state;
-                taken += 1;
-                at = next;
-            }
+    let mut at = 0;
+    for taken in 0..allowance {
+        let Some(one) = take(run.state, string, at)? else {
+            return Ok(());
+        };
+        if let Some(byte) = one.made.byte {
+            answers[run.answered] = byte;
+            run.answered += 1;
         }
+        run.taken = taken + 1;
+        run.state = one.made.state;
+        at = one.next;
     }
-    stop(ACCEPTED, taken, answered, state)
+    Ok(())
 }
 
 // Makes the calls of a string's records, one after the other, and at most as many as allowed.
 pub fn run(state: State, string: &[u8], allowance: u32, answers: &mut [u8]) -> RunAnswer
-    ensures { given result answers.new ≡ run_of state string.now allowance answers.old }
+    ensures { given (run_by result) answers.new ≡ run_of state string.now allowance answers.old }
 {
-    if !device::valid::valid(state) {
-        return stop(STATE_NOT_VALID, 0, 0, state);
-    }
-    if answers.len() < string.len() {
-        return stop(ANSWERS_TOO_SHORT, 0, 0, state);
-    }
-    run_records(state, string, allowance, answers)
+    let mut run = begun(state);
+    run.outcome = if !device::valid::valid(state) {
+        Err(Refusal::StateNotValid.into())
+    } else if answers.len() < string.len() {
+        Err(RunRefusal::AnswersTooShort)
+    } else {
+        take_records(&mut run, string, allowance, answers)
+    };
+    run
 }
