@@ -1,7 +1,7 @@
 // Texts for a person. Each promises a frame: what stands before it stays, and how long it is at most.
 #![tactic(auto)]
 
-ghost use Rattle.std.specs.Prelude.{◌+◌, ◌*◌, ◌≤◌, max, length};
+ghost use Rattle.std.specs.Prelude.{◌+◌, ◌*◌, max, length};
 ghost use Rattle.lent.specs.Put.{Puts};
 ghost use Rattle.console_text.specs.Frame.{Frame};
 ghost use Rattle.console_form.specs.Lines.{valid_line, seconds_line};
@@ -23,15 +23,6 @@ pub fn put_either(page: &mut Page, first: bool, one: &[u8], other: &[u8])
     put_text(page, if first { one } else { other });
 }
 
-// How many bytes a form begins with that are places of a number, or that are not.
-fn run(form: &[u8], place: bool) -> usize
-    ensures { result ≤ length form.now }
-{
-    form.iter()
-        .take_while(|byte| (**byte == b'#') == place)
-        .count()
-}
-
 // Puts a form with numbers in it: each run of `#` is the place of the next number, which ends where the run ends, or
 // further on where it has more digits. A place counts up to ten wide.
 pub fn put_form(page: &mut Page, form: &[u8], numbers: &[u32])
@@ -39,11 +30,12 @@ pub fn put_form(page: &mut Page, form: &[u8], numbers: &[u32])
 {
     let mut rest = form;
     for n in numbers {
-        let (text, from_place) = rest.split_at(run(rest, false));
-        let (place, after) = from_place.split_at(run(from_place, true));
+        let begin = rest.iter().take_while(|byte| **byte != b'#').count();
+        let (text, place_on) = rest.split_at(begin);
+        let width = place_on.iter().take_while(|byte| **byte == b'#').count();
         page.put(text);
-        put_padded(page, *n, place.len().min(10));
-        rest = after;
+        put_padded(page, *n, width);
+        rest = &place_on[width..];
     }
     page.put(rest);
 }

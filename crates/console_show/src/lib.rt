@@ -98,7 +98,7 @@ fn put_modification(page: &mut Page, modification: u8)
 fn put_starts(page: &mut Page, delay: u16, wait: u16)
     ensures { Frame 55 page.old page.new }
 {
-    if (delay == 0) & (wait == 0) {
+    if delay == 0 && wait == 0 {
         put_text(page, b"starts    no delay, no wait\n");
     } else {
         put_form(
@@ -134,8 +134,8 @@ fn percent_tenths(duty: u16) -> u32 {
 
 // Whether the wait holds a channel back: it has a duty to leave ramp value 0 for, and no override keeps it there.
 fn held_back(wait: u16, conditions: Conditions, channel: Channel) -> bool {
-    let wants = (channel.ramp == 0) & (0 < wanted(channel));
-    (0 < wait) & wants & !overridden(conditions, channel)
+    let wants = channel.ramp == 0 && 0 < wanted(channel);
+    0 < wait && wants && !overridden(conditions, channel)
 }
 
 // The ramp value, or that the channel waits: then it is 0.

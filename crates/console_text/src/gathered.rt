@@ -42,7 +42,7 @@ impl Gathered {
         ensures { self.new.kept ≤ max self.old.kept (length line.old) }
     {
         self.total = self.total.saturating_add(1).min(LONGEST + 2);
-        if (self.kept == 0) & is_blank(byte) {
+        if self.kept == 0 && is_blank(byte) {
             return;
         }
         if self.kept < line.len() {
