@@ -48,7 +48,8 @@ pub enum Request {
     View(View),
 }
 
-// What a command asks for, or that it asks for the record of the call that follows, with the words that it has.
+// What a command asks for, or that it asks for the record of the call that follows, with the words that it has. Both are asked for,
+// so neither is a `None`.
 #[derive(Clone, Copy)]
 pub enum Asks {
     For(Request),
