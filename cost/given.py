@@ -51,12 +51,14 @@ def is_power(operand):
 
 def look_at(name, tree):
     """The functions that one calls, the places that are found in it, and how many other divisions there are."""
-    called, places, powers = [], [], 0
+    # What it calls through a bound is a method of an impl that it names, or that its callers name.
+    called = [method for impl in tree["generics"]["impls"] for method in impl["methods"]]
+    places, powers = [], 0
     for word, below in parts_of(tree):
         if word == "Fn":
             called.append(below[0])
-        if word == "Fn" and below[1]["dicts"] or word in ("Method", "CallV", "VtMethod"):
-            places.append(f"  {name}: a call through a bound, which is not looked into")
+        if word in ("CallV", "VtMethod"):
+            places.append(f"  {name}: a call through a pointer, which is not looked into")
         if word == "Op2" and any(it in str(below[0]) for it in ("Div", "Rem")):
             if is_power(below[2]):
                 powers += 1

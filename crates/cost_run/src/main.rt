@@ -2,9 +2,10 @@
 // runs it. A letter of input chooses which. It stands apart from `cost`, so that no call there is made from two places.
 #![tactic(auto)]
 
+use counting::{Given, letters, sum_of};
 use rules::{Call, State};
 use std::io;
-use std::io::Read;
+use strings::Order;
 
 const TIMES: u32 = 1000;
 
@@ -28,89 +29,56 @@ const LISTED: [Call; 16] = [
     Call::Pin(false),
 ];
 
-// All that the calls give: nothing of it can be left out as unused.
-#[derive(Clone, Copy)]
-struct Given {
-    number: u32,
-    state: State,
-}
-
 // Puts the calls four times over as a string: 64 records of 192 bytes.
 fn put_64(string: &mut [u8]) {
-    let calls = LISTED;
-    let mut at: usize = 0;
-    let mut i: usize = 0;
-    while i < 64 {
-        at = encode::encode(encode::order_of(calls[i % 16]), string, at);
-        i += 1;
+    let mut at = 0;
+    for call in LISTED.iter().cycle().take(64) {
+        at = encode::encode(Order::from(*call), string, at);
     }
-}
-
-fn widened(byte: u8) -> u32 {
-    byte as u32
 }
 
 // The 64 records in one run.
 fn running(state: State, string: &[u8]) -> Given {
-    let mut answers = [0u8; 192];
+    let mut answers = [0; 192];
     let ran = orders::run(state, string, 64, &mut answers);
-    let next = ran.state;
     Given {
-        number: ran.taken.wrapping_add(widened(answers[0])),
-        state: next,
+        number: ran.taken.wrapping_add(u32::from(answers[0])),
+        state: ran.state,
     }
 }
 
 // The same calls, one by one.
 fn one_by_one(state: State) -> Given {
-    let calls = LISTED;
-    let mut next = state;
-    let mut sum: u32 = 0;
-    let mut i: usize = 0;
-    while i < 64 {
-        let made = calls::make(next, calls[i % 16]);
-        sum = sum.wrapping_add(widened(made.byte));
-        next = made.state;
-        i += 1;
+    let mut given = Given { number: 0, state };
+    for call in LISTED.iter().cycle().take(64) {
+        if let Ok(made) = calls::make(given.state, *call) {
+            given = Given {
+                number: given
+                    .number
+                    .wrapping_add(u32::from(made.byte.unwrap_or(0))),
+                state: made.state,
+            };
+        }
     }
-    Given {
-        number: sum,
-        state: next,
-    }
+    given
 }
 
 // The 64 calls, by the letter: a run, or one by one.
 fn call(state: State, letter: u8, string: &[u8]) -> Given {
     if letter == b'r' {
-        return running(state, string);
+        running(state, string)
+    } else {
+        one_by_one(state)
     }
-    one_by_one(state)
-}
-
-// Each time from another clock, and a sum of what is given.
-fn sum_of(state: State, letter: u8, string: &[u8]) -> u64 {
-    let mut next = state;
-    let mut sum: u64 = 0;
-    let mut i: u32 = 0;
-    while i < TIMES {
-        next.timer.clock = i;
-        let given = call(next, letter, string);
-        sum = sum.wrapping_add(given.state.timer.clock as u64);
-        sum = sum.wrapping_add(given.number as u64);
-        i += 1;
-    }
-    sum
 }
 
 fn main(rt: HostRuntime) -> io::Result<()> {
-    let mut text = [0u8; 1];
-    // A letter that the input lacks stays 0.
-    let _ = rt.stdin().read_exact(&mut text);
-    let mut string = [0u8; 192];
+    let [letter]: [u8; 1] = letters(&rt);
+    let mut string = [0; 192];
     put_64(&mut string);
-    let begun = start::start(0, 0, 511, 0x11, 0);
+    let state = start::start(0, 0, 511, 0x11, 0).unwrap_or_default();
     // Once first: with two places that call it, `call` stays a function that can be counted in.
-    let first = call(begun.state, text[0], &string);
-    let sum = (first.number as u64).wrapping_add(sum_of(begun.state, text[0], &string));
-    println!(rt; "{sum}")
+    let first = call(state, letter, &string);
+    let sum = sum_of(state, TIMES, |state| call(state, letter, &string));
+    println!(rt; "{}", sum.wrapping_add(u64::from(first.number)))
 }

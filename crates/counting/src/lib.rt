@@ -33,9 +33,9 @@ impl Given {
 }
 
 // The first letters of the input. One that it lacks stays 0.
-pub fn letters<const N: usize>(rt: &impl Input) -> [u8; N] {
+pub fn letters<const N: usize>(rt: &HostRuntime) -> [u8; N] {
     let mut letters = [0; N];
-    let _ = rt.reader().read_exact(&mut letters);
+    let _ = rt.stdin().read_exact(&mut letters);
     letters
 }
 

@@ -3,169 +3,146 @@
 // what else is answered is printed it leaves nothing out but refusals.
 #![tactic(auto)]
 
+use counting::{letters, six_bits};
+use galley_rules::{Sample, TABLE_BYTES};
 use records::reader::next_at;
-use rules::{Call, Speed, State};
-use std::io::Read;
-use strings::Found;
+use rules::{ByteRead, Call, Made, Reading, Refusal, Speed, State};
+use strings::{Found, Order, StringRefusal};
+
+const DIGITS: [u8; 16] = *b"0123456789ABCDEF";
 
 fn digit(number: u64) -> u8 {
-    let low = (number % 16) as u8;
-    if low < 10 {
-        return 48 + low;
-    }
-    55 + low
+    DIGITS[(number % 16) as usize]
 }
 
-// A line with a number's four lowest digits in hex: a decimal one would be divided by ten. A write that fails is let go, since the number
-// of its error, which `main` would hand on, would be divided so too.
+// A line with a number's four lowest digits in hex. They are made by hand since the standard library's printing of a number divides, which
+// cost/divides would find. A write that fails is let go: the number of its error, which `main` would hand on, would be divided too.
 fn tell(rt: &impl Print, what: &[u8], number: u64) {
-    let line = [
-        digit(number >> 12),
-        digit(number >> 8),
-        digit(number >> 4),
-        digit(number),
-        10,
-    ];
+    let digits = [number >> 12, number >> 8, number >> 4, number].map(digit);
     let _ = rt.write_all(what);
-    let _ = rt.write_all(&line);
-}
-
-fn widened(byte: u8) -> u64 {
-    byte as u64
-}
-
-fn six_bits(letter: u8) -> u32 {
-    (letter % 64) as u32
+    let _ = rt.write_all(&digits);
+    let _ = rt.write_all(b"\n");
 }
 
 // The calls that change the state, each from the one before. That none was refused is told by the sum in the end.
 fn passed(letters: [u8; 18]) -> State {
-    let begun = start::start(
+    let state = start::start(
         six_bits(letters[0]),
         six_bits(letters[1]),
         six_bits(letters[2]),
         letters[3],
         six_bits(letters[8]),
-    );
-    let written = write::write(begun.state, six_bits(letters[4]), letters[5]);
-    let address = 0x40 + (letters[11] % 64) as u32;
-    let aimed = write_word::write_word(written.state, address, (letters[2] % 64) as u16 * 128);
-    let once = ticks::pass_ticks(aimed.state, six_bits(letters[6]));
+    )
+    .unwrap_or(start::zero_state());
+    let state = write::write(state, six_bits(letters[4]), letters[5]).unwrap_or(state);
+    let address = 0x40 + six_bits(letters[11]);
+    let word = u16::from(letters[2] % 64) * 128;
+    let state = write_word::write_word(state, address, word).unwrap_or(state);
+    let state = ticks::pass_ticks(state, six_bits(letters[6])).unwrap_or(state);
     let spans = [six_bits(letters[6]), six_bits(letters[7])];
-    ticks::pass_each(once.state, &spans).state
+    ticks::pass_each(state, &spans).unwrap_or(state)
 }
 
 fn changed(rt: &impl Print, state: State, letters: [u8; 18]) -> State {
     let channel = six_bits(letters[8]);
-    let pulsed = pulse::take_pulse(state, channel);
-    let judged = tachometer::take_result(pulsed.state, channel, six_bits(letters[9]) << 5);
-    let set = pin::set_pin(judged.state, letters[10] == b'A');
-    let read = read::read(set.state, six_bits(letters[4]));
-    tell(rt, b"read ", read.byte as u64);
-    let made = calls::make(read.state, Call::Read(six_bits(letters[11])));
-    tell(rt, b"made ", made.byte as u64);
+    let state = pulse::take_pulse(state, channel).unwrap_or(state);
+    let state =
+        tachometer::take_result(state, channel, six_bits(letters[9]) << 5).unwrap_or(state);
+    let state = pin::set_pin(state, letters[10] == b'A').unwrap_or(state);
+    let read = read::read(state, six_bits(letters[4])).unwrap_or(ByteRead { byte: 0, state });
+    tell(rt, b"read ", u64::from(read.byte));
+    let made = calls::make(read.state, Call::Read(six_bits(letters[11]))).unwrap_or(Made {
+        byte: None,
+        state: read.state,
+    });
+    tell(rt, b"made ", u64::from(made.byte.unwrap_or(0)));
     made.state
 }
 
+// A digit for whether a number is so large.
 fn at_least(number: f64, bound: f64) -> u64 {
-    if bound <= number {
-        return 1;
-    }
-    0
+    u64::from(bound <= number)
 }
 
-fn turns(speed: Speed) -> u64 {
+fn turns(speed: Result<Speed, Refusal>) -> u64 {
     match speed {
-        Speed::Rpm(speed) => speed as u64,
-        Speed::Stopped => 0,
-        Speed::TooFast => 0,
-        Speed::Refused => 0,
+        Ok(Speed::Rpm(speed)) => u64::from(speed),
+        _ => 0,
     }
 }
 
 // The queries, a digit for each of their numbers, and the speed of channel 1.
 fn asked(rt: &impl Print, state: State, pulses: u32) {
-    let failed = fan_fail::fan_fail(state);
-    let told = (failed.asserted as u64) << 8 | (failed.failed as u64) << 4 | failed.lowest as u64;
+    let failed = fan_fail::fan_fail(state).unwrap_or(None);
+    let told = match failed {
+        Some(failed) => 1 << 8 | u64::from(failed.count) << 4 | u64::from(failed.lowest),
+        None => 0,
+    };
     tell(rt, b"asserted, failed, lowest ", told);
-    let cabin = reading::reading(failed.state);
-    let shares = cabin.reading.shares;
-    let sum = shares[0] + shares[1] + shares[2] + shares[3] + shares[4] + shares[5];
-    let past = at_least(cabin.reading.seconds, 0.25) << 4 | at_least(sum, 6.0);
+    let cabin = reading::reading(state).unwrap_or(Reading {
+        seconds: 0.0,
+        shares: [0.0; 6],
+    });
+    let sum = cabin.shares.iter().fold(0.0, |sum, share| sum + share);
+    let past = at_least(cabin.seconds, 0.25) << 4 | at_least(sum, 6.0);
     tell(rt, b"a quarter of a second, six at full speed ", past);
-    let channels = cabin.state.channels;
-    let channel = channels[0];
+    let channel = state.channels[0];
     let range = registers::fields::range_code(channel.dynamics);
-    tell(
-        rt,
-        b"speed ",
-        turns(speed::speed(range as u32, pulses, channel.count as u32)),
-    );
+    let speed = speed::speed(u32::from(range), pulses, u32::from(channel.count));
+    tell(rt, b"speed ", turns(speed));
 }
 
 // Where the record ends, 0 where there is none.
-fn end_of(found: Found) -> u64 {
+fn end_of(found: Result<Option<Found>, StringRefusal>) -> u64 {
     match found {
-        Found::Record(call, after) => after as u64,
-        Found::End => 0,
-        Found::Refused(number) => 0,
+        Ok(Some(found)) => found.next as u64,
+        _ => 0,
     }
 }
 
 // A write and a read as an order string, whose second record is read back, and which is run.
 fn ran(rt: &impl Print, state: State, letters: [u8; 18]) -> State {
-    let mut string = [0u8; 5];
+    let mut string = [0; 5];
     let write = Call::Write(six_bits(letters[4]), letters[5]);
-    let first = encode::encode(encode::order_of(write), &mut string, 0);
+    let first = encode::encode(Order::from(write), &mut string, 0);
     let read = Call::Read(six_bits(letters[11]));
-    encode::encode(encode::order_of(read), &mut string, first);
+    encode::encode(Order::from(read), &mut string, first);
     tell(rt, b"record to ", end_of(next_at(&string, first)));
-    let mut answers = [0u8; 5];
+    let mut answers = [0; 5];
     let run = orders::run(state, &string, six_bits(letters[12]), &mut answers);
-    tell(rt, b"taken ", run.taken as u64);
-    tell(rt, b"answered ", widened(answers[0]));
+    tell(rt, b"taken ", u64::from(run.taken));
+    tell(rt, b"answered ", u64::from(answers[0]));
     run.state
-}
-
-fn temperature(letter: u8) -> i32 {
-    letter as i32
-}
-
-fn hex(valid: bool) -> u64 {
-    if valid {
-        return 1;
-    }
-    0
 }
 
 // A sample of a galley that is fresh, with one letter as all its tables' bytes; then a span of rows, and the temperature.
 fn served(rt: &impl Print, state: State, letters: [u8; 18]) -> State {
-    let table = [letters[17]; 48];
-    let begun = galley::fresh(
-        temperature(letters[14]),
-        temperature(letters[15]),
+    let table = [letters[17]; TABLE_BYTES];
+    let galley = galley::fresh(
+        i32::from(letters[14]),
+        i32::from(letters[15]),
         letters[10] == b'A',
         letters[10] == b'B',
+    )
+    .unwrap_or(galley::zero_galley());
+    let sample = galley::sample(galley, state, i32::from(letters[16]), &table, &table).unwrap_or(
+        Sample {
+            alert: false,
+            shutdown: false,
+            galley,
+            state,
+        },
     );
-    let sample = galley::sample(
-        begun.galley,
-        state,
-        temperature(letters[16]),
-        &table,
-        &table,
-    );
-    let told = hex(sample.alert) << 8 | hex(sample.shutdown) << 4 | sample.galley.row as u64;
-    tell(rt, b"alert, shutdown, row ", told);
+    let flags = u64::from(sample.alert) << 8 | u64::from(sample.shutdown) << 4;
+    tell(rt, b"alert, shutdown, row ", flags | u64::from(sample.galley.row));
     let first = six_bits(letters[11]);
     let end = six_bits(letters[9]);
-    let refusal = galley::span_refusal(sample.galley, first, end, &table, &table);
-    let rows = galley::span_rows(sample.galley, first, end, &table, &table);
-    tell(
-        rt,
-        b"refused, rows ",
-        widened(refusal) << 8 | rows.len() as u64,
-    );
-    let degrees = galley::degrees(sample.galley).degrees;
+    let rows = match galley::rows(sample.galley, first, end, &table, &table) {
+        Ok(rows) => rows.len() as u64,
+        Err(refusal) => u64::from(refusal.number()) << 8,
+    };
+    tell(rt, b"refused, rows ", rows);
+    let degrees = galley::degrees(sample.galley).unwrap_or(0.0);
     let past = at_least(degrees, 15.75) << 4 | at_least(degrees, 16.0);
     tell(rt, b"15.75 degrees, 16 degrees ", past);
     sample.state
@@ -174,30 +151,17 @@ fn served(rt: &impl Print, state: State, letters: [u8; 18]) -> State {
 // The sum of a state's numbers, once they have been to numbers and back.
 fn sum_of(state: State) -> u64 {
     let numbers = numbers::numbers_of(state);
-    let again = numbers::numbers_of(numbers::state_of(&numbers));
-    let mut sum: u64 = 0;
-    let mut i: usize = 0;
-    while i < numbers::STATE_NUMBERS {
-        sum = sum.wrapping_add(again[i] as u64);
-        i += 1;
-    }
-    sum
+    numbers::numbers_of(numbers::state_of(&numbers))
+        .iter()
+        .fold(0u64, |sum, number| sum.wrapping_add(u64::from(*number)))
 }
 
 fn main(rt: HostRuntime) {
-    let mut letters = [0u8; 18];
-    // A letter that the input lacks stays 0.
-    let _ = rt.stdin().read_exact(&mut letters);
+    let letters: [u8; 18] = letters(&rt);
     let state = changed(&rt, passed(letters), letters);
     asked(&rt, state, six_bits(letters[12]));
-    tell(
-        &rt,
-        b"limit ",
-        numbers::limit(six_bits(letters[13]) as usize) as u64,
-    );
-    tell(
-        &rt,
-        b"sum ",
-        sum_of(served(&rt, ran(&rt, state, letters), letters)),
-    );
+    let limit = numbers::limit(six_bits(letters[13]) as usize);
+    tell(&rt, b"limit ", u64::from(limit));
+    let state = served(&rt, ran(&rt, state, letters), letters);
+    tell(&rt, b"sum ", sum_of(state));
 }
