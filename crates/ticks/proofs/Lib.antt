@@ -1,1 +1,3 @@
 pub mod AfterTurns
+pub mod Wrapping
+pub mod Each

@@ -1,4 +1,4 @@
-// Many ticks of one channel.
+// Many ticks of one channel. Clocks wrap as the box's does: a period divides their range, so the multiples are the same.
 ghost use Rattle.std.specs.Prelude.{◌≡◌, ◌^◌, ◌<◌, ◌≤◌, false};
 ghost use Rattle.rules.specs.Tick.{period_of, spin_up_due};
 ghost use Rattle.laws.proofs.Ramp.{approach};
@@ -9,6 +9,7 @@ use device::duty::wanted;
 use registers::fields::{asymmetric, rate_code, spin_code};
 use rules::Channel;
 
+#[tactic(auto, unfolding(rules::specs::Tick::spin_up_due))]
 fn spin_up_due(channel: Channel) -> bool
     ensures { result ≡ spin_up_due channel }
 {
@@ -26,83 +27,74 @@ fn shift_of(channel: Channel) -> u32
     )
 }
 
+#[tactic(auto, unfolding(laws::proofs::Ramp::approach))]
 fn approach(x: u16, goal: u16, steps: u64) -> u16
     ensures { result ≡ approach x goal steps }
 {
-    if x <= goal {
-        if steps < (goal - x) as u64 {
-            return x + steps as u16;
-        }
-        return goal;
-    }
-    if steps < (x - goal) as u64 {
-        return x - steps as u16;
-    }
-    goal
+    let from = u64::from(x);
+    let to = u64::from(goal);
+    let reached = if x <= goal {
+        from.saturating_add(steps).min(to)
+    } else {
+        from.saturating_sub(steps).max(to)
+    };
+    reached as u16
 }
 
-// A channel whose spin-up neither runs nor is due. The clock does not wrap here: a period divides its range, so the
-// multiples are the same, and 64 bits hold the sum.
-fn ramped(channel: Channel, clock: u64, ticks: u32) -> Channel
-    requires { (channel.spin ≡ 0) × (spin_up_due channel ≡ false) × (clock < 2 ^ 35) }
-    ensures { result ≡ channel_ticks false ticks clock channel }
+// A channel whose spin-up neither runs nor is due.
+fn ramp(channel: &mut Channel, clock: u32, ticks: u32)
+    requires { (channel.old.spin ≡ 0) × (spin_up_due channel.old ≡ false) × (0 < ticks) }
+    ensures { channel.new ≡ channel_ticks false ticks clock channel.old }
 {
-    let mut next = channel;
-    let goal = wanted(channel);
+    let goal = wanted(*channel);
     if rate_code(channel.dynamics) == 0 {
-        if ticks == 0 {
-            return channel;
-        }
-        next.ramp = goal;
-        return next;
+        channel.ramp = goal;
+        return;
     }
-    let shift = shift_of(channel);
-    let steps = ((clock + ticks as u64) >> shift) - (clock >> shift);
-    next.ramp = approach(channel.ramp, goal, steps);
-    next
+    let shift = shift_of(*channel);
+    let before = u64::from(clock);
+    let steps = ((before + u64::from(ticks)) >> shift) - (before >> shift);
+    channel.ramp = approach(channel.ramp, goal, steps);
 }
 
 // A channel whose spin-up does not run, and may be due: then one tick starts it.
-fn not_spinning(channel: Channel, clock: u64, ticks: u32) -> Channel
-    requires { (channel.spin ≡ 0) × (clock < 2 ^ 34) }
-    ensures { result ≡ channel_ticks false ticks clock channel }
+fn start_or_ramp(channel: &mut Channel, clock: u32, ticks: u32)
+    requires { channel.old.spin ≡ 0 }
+    ensures { channel.new ≡ channel_ticks false ticks clock channel.old }
 {
     if ticks == 0 {
-        return channel;
+        return;
     }
-    if spin_up_due(channel) {
-        let time = spin_ticks(spin_code(channel.config));
-        let left = ticks - 1;
-        let mut next = channel;
-        next.ramp = 511;
-        next.pulses = 0;
-        if left <= time as u32 {
-            next.spin = time - left as u16;
-            return next;
-        }
-        return ramped(next, clock + 1 + time as u64, left - time as u32);
+    if !spin_up_due(*channel) {
+        ramp(channel, clock, ticks);
+        return;
     }
-    ramped(channel, clock, ticks)
+    let time = spin_ticks(spin_code(channel.config));
+    let left = ticks - 1;
+    channel.ramp = 511;
+    channel.pulses = 0;
+    if left <= u32::from(time) {
+        channel.spin = time - left as u16;
+        return;
+    }
+    ramp(
+        channel,
+        clock.wrapping_add(1 + u32::from(time)),
+        left - u32::from(time),
+    );
 }
 
-// Any channel, under an override or not. With no spin-up time left no pulses are counted, so clearing both is right where none runs too.
-pub fn channel_after(held: bool, channel: Channel, clock: u64, ticks: u32) -> Channel
-    requires { (channel.pulses ≤ channel.spin) × (clock < 2 ^ 33) }
-    ensures { result ≡ channel_ticks held ticks clock channel }
+// Any channel that no override holds. With no spin-up time left no pulses are counted, so clearing both is right where none runs too.
+pub fn pass(channel: &mut Channel, clock: u32, ticks: u32)
+    requires { channel.old.pulses ≤ channel.old.spin }
+    ensures { channel.new ≡ channel_ticks false ticks clock channel.old }
 {
-    if held {
-        return channel;
+    let spin = u32::from(channel.spin);
+    if ticks < spin {
+        channel.spin -= ticks as u16;
+        return;
     }
-    if ticks == 0 {
-        return channel;
-    }
-    let spin = channel.spin;
-    let mut next = channel;
-    if ticks < spin as u32 {
-        next.spin = spin - ticks as u16;
-        return next;
-    }
-    next.spin = 0;
-    next.pulses = 0;
-    not_spinning(next, clock + spin as u64, ticks - spin as u32)
+    channel.spin = 0;
+    channel.pulses = 0;
+    start_or_ramp(channel, clock.wrapping_add(spin), ticks - spin);
 }

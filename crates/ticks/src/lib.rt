@@ -3,6 +3,7 @@
 
 ghost use Rattle.std.specs.Prelude.{◌≡◌, ◌-◌, ◌≤◌, true, nat_le};
 ghost use Rattle.rules.specs.Basics.{every};
+ghost use Rattle.rules.specs.Calls.{answer_by};
 ghost use Rattle.rules.specs.Time.{clock_after};
 ghost use Rattle.rules.specs.Valid.{valid_of};
 ghost use Rattle.rules.specs.Tick.{idle_limit, tick, iterate, ticks_passed};
@@ -11,44 +12,34 @@ ghost use Rattle.laws.proofs.Valid.{few_pulses};
 ghost use Rattle.laws.proofs.Waiting.{stood};
 ghost use Rattle.laws.proofs.StateTicks.{counting, row_after, timed};
 
-use crate::channel::channel_after;
+use crate::channel::pass;
 use crate::waiting::waited_in;
-use device::answer::answered;
 use device::codes::watchdog_limit;
 use device::duty::{conditions, overridden};
 use device::valid::valid;
 use registers::fields::watchdog_code;
-use rules::{ACCEPTED, Answer, Channel, Conditions, STATE_NOT_VALID, State};
+use rules::{Channel, Conditions, Refusal, State, Timer};
 use turns::fall;
 
 mod channel;
 mod waiting;
 
 // Each channel by itself, after the ticks that it waited.
-fn channels_after(
+fn pass_channels(
     now: Conditions,
-    channels: [Channel; 6],
+    channels: &mut [Channel; 6],
     waited: [u32; 6],
     clock: u32,
     ticks: u32,
-) -> [Channel; 6]
-    requires { (every few_pulses channels ≡ true) × (every (λ n. nat_le n ticks) waited ≡ true) }
-    ensures { result ≡ stood now ticks clock waited channels }
+)
+    requires { (every few_pulses channels.old ≡ true) × (every (λ n. nat_le n ticks) waited ≡ true) }
+    ensures { channels.new ≡ stood now ticks clock waited channels.old }
 {
-    let mut next = channels;
-    let mut i = 0;
-    while i < 6 {
-        let channel = channels[i];
-        let skipped = waited[i];
-        next[i] = channel_after(
-            overridden(now, channel),
-            channel,
-            clock as u64 + skipped as u64,
-            ticks - skipped,
-        );
-        i += 1;
+    for (i, channel) in channels.iter_mut().enumerate() {
+        if !overridden(now, *channel) {
+            pass(channel, clock.wrapping_add(waited[i]), ticks - waited[i]);
+        }
     }
-    next
 }
 
 fn is_counting(state: State) -> bool
@@ -64,110 +55,101 @@ fn idle_limit(state: State) -> u16
     watchdog_limit(watchdog_code(state.registers.control))
 }
 
-// What becomes of the watchdog in a span, and in how many of its ticks a channel may move.
+// What becomes of the timer in a span but for its wait, and in how many of its ticks a channel may move.
 #[derive(Clone, Copy)]
 struct Span {
     moving: u32,
-    idle: u16,
-    expired: bool,
-    status: bool,
+    timer: Timer,
 }
 
 // Where the watchdog expires on the way, that tick is frozen already but for the wait, and so is every later one.
 fn span_of(state: State, ticks: u32) -> Span
     requires { valid_of state ≡ true }
-    ensures { (result.moving ≤ ticks) × (iterate ticks tick state ≡ let row = row_after result.moving state in timed state (row.0 - (ticks - result.moving), row.1) (clock_after state.timer.clock ticks) result.idle result.expired result.status) }
+    ensures { (result.moving ≤ ticks) × (iterate ticks tick state ≡ let row = row_after result.moving state in let t = result.timer in timed state (row.0 - (ticks - result.moving), row.1) t.clock t.idle t.expired t.status) }
 {
-    let timer = state.timer;
+    let timer = Timer {
+        clock: state.timer.clock.wrapping_add(ticks),
+        ..state.timer
+    };
     if !is_counting(state) {
         return Span {
             moving: ticks,
-            idle: timer.idle,
-            expired: timer.expired,
-            status: timer.status,
+            timer,
         };
     }
     let limit = idle_limit(state);
     let room = limit - timer.idle - 1;
-    if ticks <= room as u32 {
+    if ticks <= u32::from(room) {
         return Span {
             moving: ticks,
-            idle: timer.idle + ticks as u16,
-            expired: timer.expired,
-            status: timer.status,
+            timer: Timer {
+                idle: timer.idle + ticks as u16,
+                ..timer
+            },
         };
     }
     Span {
-        moving: room as u32,
-        idle: limit,
-        expired: true,
-        status: true,
+        moving: u32::from(room),
+        timer: Timer {
+            idle: limit,
+            expired: true,
+            status: true,
+            ..timer
+        },
     }
 }
 
-fn timed(state: State, channels: [Channel; 6], wait: u16, clock: u32, span: Span) -> State
-    ensures { result ≡ timed state (wait, channels) clock span.idle span.expired span.status }
-{
-    let mut next = state;
-    next.channels = channels;
-    next.timer.clock = clock;
-    next.timer.idle = span.idle;
-    next.timer.wait = wait;
-    next.timer.expired = span.expired;
-    next.timer.status = span.status;
-    next
-}
-
 // A valid state. From the tick on in which the watchdog expires, nothing moves but the clock and the wait. That the two kinds of span are
-// apart here costs nothing: with one place that calls them, `waited_in` and `channels_after` would be inlined, and each jump dearer.
+// apart here costs nothing: with one place that calls them, `waited_in` and `pass_channels` would be inlined, and each jump dearer.
 fn passed(state: State, ticks: u32) -> State
     requires { valid_of state ≡ true }
     ensures { result ≡ iterate ticks tick state }
 {
     let now = conditions(state);
     let span = span_of(state, ticks);
-    let channels = state.channels;
     let before = state.timer.clock;
-    let clock = std::num::wrapping_add_u32(before, ticks);
+    let mut next = State {
+        timer: span.timer,
+        ..state
+    };
     if span.moving == ticks {
         let free = waited_in(now, state, ticks);
-        let waited = free.ticks;
-        let next = channels_after(now, channels, waited, before, ticks);
-        return timed(state, next, free.wait, clock, span);
+        pass_channels(now, &mut next.channels, free.ticks, before, ticks);
+        next.timer.wait = free.wait;
+        return next;
     }
     let last = waited_in(now, state, span.moving);
-    let waited = last.ticks;
-    let next = channels_after(now, channels, waited, before, span.moving);
-    let wait = fall(last.wait, ticks - span.moving);
-    timed(state, next, wait, clock, span)
+    pass_channels(now, &mut next.channels, last.ticks, before, span.moving);
+    next.timer.wait = fall(last.wait, ticks - span.moving);
+    next
 }
 
 // So many ticks pass at once: what the paper calls a jump.
-pub fn pass_ticks(state: State, ticks: u32) -> Answer
-    ensures { result ≡ ticks_passed state ticks }
+#[tactic(auto, unfolding(rules::specs::Tick::ticks_passed, rules::specs::Tick::iterate))]
+pub fn pass_ticks(state: State, ticks: u32) -> Result<State, Refusal>
+    ensures { answer_by state result ≡ ticks_passed state ticks }
 {
     if !valid(state) {
-        return answered(STATE_NOT_VALID, state);
+        return Err(Refusal::StateNotValid);
     }
     if ticks == 0 {
-        return answered(ACCEPTED, state);
+        return Ok(state);
     }
-    answered(ACCEPTED, passed(state, ticks))
+    Ok(passed(state, ticks))
 }
 
-// Such calls in turn, each given the state that the one before left: what the paper calls a quiet span.
-pub fn pass_each(state: State, elapsed: &[u32]) -> Answer
-    ensures { result ≡ each_passed state elapsed.now }
+// Such calls in turn, each given the state that the one before left: what the paper calls a quiet span. The list would go on after a
+// refused call, but none is.
+#[tactic(auto, unfolding(rules::specs::Make::each_passed))]
+pub fn pass_each(state: State, elapsed: &[u32]) -> Result<State, Refusal>
+    ensures { answer_by state result ≡ each_passed state elapsed.now }
 {
     if !valid(state) {
-        return answered(STATE_NOT_VALID, state);
+        return Err(Refusal::StateNotValid);
     }
     let mut last = state;
-    let mut made = 0;
-    while made < elapsed.len() {
-        let next = pass_ticks(last, elapsed[made]);
-        last = next.state;
-        made += 1;
+    for ticks in elapsed {
+        last = pass_ticks(last, *ticks).unwrap_or(last);
     }
-    answered(ACCEPTED, last)
+    Ok(last)
 }

@@ -3,135 +3,100 @@ ghost use Rattle.std.specs.Prelude.{◌≡◌, true, not, map, nat_le};
 ghost use Rattle.rules.specs.Basics.{every};
 ghost use Rattle.rules.specs.Duty.{conditions_of};
 ghost use Rattle.rules.specs.Valid.{valid_of};
-ghost use Rattle.rules.specs.Tick.{delay_of};
-ghost use Rattle.turns.specs.Turns.{waiter, turns_after, ticks_waited};
-ghost use Rattle.laws.proofs.Waiting.{waits, above_zero, start_shift, wait_shift, stood};
+ghost use Rattle.turns.specs.Turns.{ticks_waited};
+ghost use Rattle.laws.proofs.Waiting.{waits, above_zero, start_shift, stood};
 ghost use Rattle.laws.proofs.StateTicks.{row_after};
+ghost use Rattle.ticks.specs.Waiters.{waiter_of, turned};
 
 use device::codes::start_delay;
 use device::duty::{overridden, wanted};
 use registers::fields::{delay_code, rate_code, spin_code};
 use rules::{Channel, Conditions, State};
-use turns::{Turns, Waiter, fall, turns_after};
+use turns::{Period, Turns, Waiter, fall};
 
 // Whether a channel stands at ramp value 0 below its target, and only its period and the shared wait keep it there.
+#[tactic(auto, unfolding(laws::proofs::Waiting::waits))]
 fn waits(now: Conditions, channel: Channel) -> bool
     ensures { result ≡ waits now channel }
 {
-    if channel.ramp != 0 {
-        return false;
-    }
-    if wanted(channel) == 0 {
-        return false;
-    }
-    !overridden(now, channel)
+    channel.ramp == 0 && 0 < wanted(channel) && !overridden(now, channel)
 }
 
-// The power of two whose multiples are the clocks at which it leaves: by a spin-up and with rate code 0 each of them.
-fn start_shift(channel: Channel) -> u8
+// The multiples of its period are the clocks at which it leaves: by a spin-up and with rate code 0 each of them.
+#[tactic(auto, unfolding(laws::proofs::Waiting::start_shift))]
+fn start_period(channel: Channel) -> Period
     ensures { result ≡ start_shift channel }
 {
     if 0 < spin_code(channel.config) {
-        return 0;
+        return Period::of_rate(0);
     }
-    let rate = rate_code(channel.dynamics);
-    if rate == 0 {
-        return 0;
-    }
-    rate - 1
+    Period::of_rate(rate_code(channel.dynamics))
 }
 
-fn wait_shift(now: Conditions, channel: Channel) -> u8
-    ensures { result ≡ wait_shift now channel }
+fn waiter_of(now: Conditions, channel: Channel) -> Waiter
+    ensures { result ≡ waiter_of now channel }
 {
     if waits(now, channel) {
-        return start_shift(channel);
+        Waiter::Waits(start_period(channel))
+    } else {
+        Waiter::Left(0)
     }
-    8
 }
 
-fn waiters_of(now: Conditions, state: State) -> [Waiter; 6]
-    ensures { result ≡ map (λ ch. waiter (wait_shift now ch) 0) state.channels }
+fn waiters_of(now: Conditions, channels: [Channel; 6]) -> [Waiter; 6]
+    ensures { result ≡ map (waiter_of now) channels }
 {
-    let mut waiters = [Waiter {
-        shift: 8,
-        waited: 0,
-    }; 6];
-    let mut i = 0;
-    while i < 6 {
-        let waiter = Waiter {
-            shift: wait_shift(now, state.channels[i]),
-            waited: 0,
-        };
-        waiters[i] = waiter;
-        i += 1;
-    }
-    waiters
+    channels.map(|channel| waiter_of(now, channel))
 }
 
 // One look at the six ramp values.
 fn none_at_zero(state: State) -> bool
     ensures { result ≡ every above_zero state.channels }
 {
-    let mut none = true;
-    let mut i = 0;
-    while i < 6 {
-        none = none & (state.channels[i].ramp != 0);
-        i += 1;
-    }
-    none
+    state.channels.iter().all(|channel| channel.ramp != 0)
 }
 
 // Each channel is asked.
 fn each_stays(now: Conditions, state: State) -> bool
     ensures { result ≡ every (λ ch. not (waits now ch)) state.channels }
 {
-    let mut each = true;
-    let mut i = 0;
-    while i < 6 {
-        each = each & !waits(now, state.channels[i]);
-        i += 1;
-    }
-    each
+    state.channels.iter().all(|channel| !waits(now, *channel))
 }
 
 // Mostly no fan stands still, and the one look suffices.
 fn none_waits(now: Conditions, state: State) -> bool
     ensures { result ≡ every (λ ch. not (waits now ch)) state.channels }
 {
-    if none_at_zero(state) {
-        return true;
-    }
-    each_stays(now, state)
+    none_at_zero(state) || each_stays(now, state)
 }
 
 fn ticks_waited(waiter: Waiter, ticks: u32) -> u32
     ensures { result ≡ ticks_waited ticks waiter }
 {
-    if waiter.shift < 8 {
-        return ticks;
+    match waiter {
+        Waiter::Waits(_) => ticks,
+        Waiter::Left(past) => past,
     }
-    waiter.waited
 }
 
 fn waited_of(waiters: [Waiter; 6], ticks: u32) -> [u32; 6]
     ensures { result ≡ map (ticks_waited ticks) waiters }
 {
-    let mut waited = [0u32; 6];
-    let mut i = 0;
-    while i < 6 {
-        waited[i] = ticks_waited(waiters[i], ticks);
-        i += 1;
-    }
-    waited
+    waiters.map(|waiter| ticks_waited(waiter, ticks))
 }
 
 fn turns_of(now: Conditions, state: State, ticks: u32) -> Turns
-    ensures { (result.wait, result.waiters) ≡ turns_after (delay_of state) state.timer.clock ticks (state.timer.wait, map (λ ch. waiter (wait_shift now ch) 0) state.channels) }
+    ensures { result ≡ turned state ticks now }
 {
-    let delay = start_delay(delay_code(state.registers.options));
-    let waiters = waiters_of(now, state);
-    turns_after(delay, state.timer.wait, waiters, state.timer.clock, ticks)
+    let turns = Turns {
+        wait: state.timer.wait,
+        waiters: waiters_of(now, state.channels),
+    };
+    turns.after(
+        start_delay(delay_code(state.registers.options)),
+        state.timer.clock,
+        ticks,
+    )
 }
 
 // The wait after so many ticks, and the ticks that each channel waited.
@@ -149,14 +114,12 @@ pub fn waited_in(now: Conditions, state: State, ticks: u32) -> Waited
     if none_waits(now, state) {
         return Waited {
             wait: fall(state.timer.wait, ticks),
-            ticks: [0u32; 6],
+            ticks: [0; 6],
         };
     }
     let turns = turns_of(now, state, ticks);
-    let waiters = turns.waiters;
-    let waited = waited_of(waiters, ticks);
     Waited {
         wait: turns.wait,
-        ticks: waited,
+        ticks: waited_of(turns.waiters, ticks),
     }
 }

@@ -22,12 +22,12 @@ overflow_sub-room c = let below = counting-below c.args.state c.requires (sym c.
 pub overflow_sub-room-2 : goal.overflow_sub-room-2
 overflow_sub-room-2 c = let below = counting-below c.args.state c.requires (sym c.is_counting.ensures ∙ c.if-not-is_counting.false) in omega (arith, c.idle_limit-limit.ensures)
 
-pub returns-then-ticks-room : goal.returns-then-ticks-room
-returns-then-ticks-room c = let s = c.args.state in
+pub returns-then-ticks-from : goal.returns-then-ticks-from
+returns-then-ticks-from c = let s = c.args.state in
     let n = c.args.ticks in
     let counts = sym c.is_counting.ensures ∙ c.if-not-is_counting.false in
     let below = counting-below s c.requires counts in
-    (omega arith, counting-ticks n s (omega arith) counts (omega (arith, c.idle_limit-limit.ensures, c.if-ticks-room.true)) ∙ all-moving s n _ _ _ _)
+    (omega arith, counting-ticks n s (omega arith) counts (omega (arith, c.idle_limit-limit.ensures, c.if-ticks-from.true)) ∙ all-moving s n _ _ _ _)
 
 pub returns : goal.returns
 returns c = let s = c.args.state in
@@ -36,9 +36,9 @@ returns c = let s = c.args.state in
     let below = counting-below s c.requires counts in
     let limit = c.idle_limit-limit.ensures in
     let room = idle_limit s - s.timer.idle - 1 in
-    let over : suc (n - suc room) ≡ n - room = omega (arith, limit, c.if-ticks-room.false) in
-    rw limit (
-      omega (arith, limit, c.if-ticks-room.false),
-      expiring-ticks s counts below n (omega (arith, limit, c.if-ticks-room.false))
+    let over : suc (n - suc room) ≡ n - room = omega (arith, limit, c.if-ticks-from.false) in
+    rw (c.from-2.ensures, limit) (
+      omega (arith, limit, c.if-ticks-from.false),
+      expiring-ticks s counts below n (omega (arith, limit, c.if-ticks-from.false))
           ∙ ap (λ m. let row = row_after room s in timed s (row.0 - m, row.1) (clock_after s.timer.clock n) (idle_limit s) true true) over,
     )

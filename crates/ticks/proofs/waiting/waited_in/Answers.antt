@@ -13,6 +13,6 @@ returns-then-none_waits c = let a = c.args in (
 
 pub returns : goal.returns
 returns c = let s = c.args.state in (
-  row-turned s c.requires.1 _ _ c.requires.0 _ _ c.turns_of-turns.ensures _ c.waited_of-waited.ensures,
-  waited-low s c.requires.1 _ _ c.requires.0 _ _ c.turns_of-turns.ensures _ c.waited_of-waited.ensures,
+  row-turned s c.requires.1 _ _ c.requires.0 _ c.turns_of-turns.ensures _ c.waited_of.ensures,
+  waited-low s c.requires.1 _ _ c.requires.0 _ c.turns_of-turns.ensures _ c.waited_of.ensures,
 )
