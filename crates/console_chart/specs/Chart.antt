@@ -1,12 +1,12 @@
 -- `chart TICKS`: "how the duties go over the next TICKS ticks if nothing is sent".
-use Rattle.std.specs.Prelude.{ℕ, zero, suc, ◌+◌, ◌-◌, ◌*◌, ◌/◌, min, List, [], ◌∷◌, ◌++◌, eqb, length, replicate, if◌then◌else◌}
+use Rattle.std.specs.Prelude.{ℕ, zero, suc, ◌+◌, ◌-◌, ◌*◌, ◌/◌, min, List, [], ◌∷◌, ◌++◌, eqb, if◌then◌else◌}
 use Rattle.rules.specs.declared.State.{State}
 use Rattle.rules.specs.State.{channel}
 use Rattle.rules.specs.Duty.{conditions_of, output_duty}
 use Rattle.rules.specs.Valid.{valid_of}
 use Rattle.rules.specs.Tick.{ticks_passed}
 use Rattle.console_text.specs.Ascii.{ascii}
-use Rattle.console_text.specs.Decimal.{decimal_of}
+use Rattle.console_text.specs.Decimal.{decimal_of, padded}
 use Rattle.console_text.specs.Fraction.{nine_decimals}
 
 -- the output duty of a channel, counted from 0, after so many ticks
@@ -19,13 +19,6 @@ duty_after s i ticks =
 unfoldable pub texts_from : (ℕ → List ℕ) → ℕ → ℕ → List ℕ
 texts_from text n zero = []
 texts_from text n (suc more) = text n ++ texts_from text (n + 1) more
-
-abbrev pub spaces : ℕ → List ℕ
-spaces count = replicate count 32
-
--- a number with spaces before it up to so many places
-unfoldable pub padded : ℕ → ℕ → List ℕ
-padded places n = spaces (places - length (decimal_of n)) ++ decimal_of n
 
 -- "as a space for 0, and for 1 to 511 as the block character U+2581 + floor(duty / 64), in UTF-8". No valid state has a duty above
 unfoldable pub block_of : ℕ → List ℕ

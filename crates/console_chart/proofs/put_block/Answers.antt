@@ -5,5 +5,5 @@ use Rattle.console_chart.proofs.put_block.Goals as goal
 pub returns-then-duty-eq0 : goal.returns-then-duty-eq0
 returns-then-duty-eq0 c = rw (block_none _ c.if-duty-eq0.true) at c.put.ensures
 
-pub returns : goal.returns
-returns c = rw (c.level.ensures, block-some _ c.if-duty-eq0.false) at c.put-2.ensures
+pub returns-else-duty-eq0 : goal.returns-else-duty-eq0
+returns-else-duty-eq0 c = rw (c.min.ensures, block-some _ c.if-duty-eq0.false) at c.put-else-duty-eq0.ensures

@@ -1,11 +1,13 @@
 -- The parts of a line are put one after the other.
-use Rattle.lent.proofs.Stores.{put-append}
+use Rattle.std.proofs.Common.{◌≡◌, ◌+◌, ◌-◌, arith}
+use Rattle.lent.proofs.Stores.{puts-append}
 use Rattle.console_chart.specs.Chart.{line_of}
 use Rattle.console_chart.proofs.put_line.Goals as goal
 
 pub returns : goal.returns
 unfolding line_of
 returns c =
-    let now = put-append c.put_decimal-digit.ensures (rw c.duty_after-now.ensures at c.put_duty-begin.ensures) in
-    let drawn = put-append now (put-append c.put-space.ensures c.put_columns-columns.ensures) in
-    put-append (put-append drawn (rw c.duty_after-end.ensures at c.put_duty-last.ensures)) c.put.ensures
+    let back : c.args.channel + 1 - 1 ≡ c.args.channel = omega arith in
+    let now = puts-append (rw c.get.ensures.0 at c.put_decimal.ensures) (rw c.duty_after.ensures at c.put_duty.ensures) in
+    let drawn = puts-append now (puts-append c.put.ensures c.put_columns.ensures) in
+    rw back (puts-append (puts-append drawn (rw c.duty_after-2.ensures at c.put_duty-2.ensures)) c.put-2.ensures)
