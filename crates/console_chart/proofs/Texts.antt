@@ -1,11 +1,10 @@
 -- The texts of a chart: what each is, how one follows the other, and how long they are together.
-use Prim.Native.Nat.{ℕ, zero, suc, ◌+◌, ◌-◌, ◌*◌, ◌/◌, ◌≤◌, ◌<◌, min}
+use Prim.Native.Nat.{ℕ, zero, suc, ◌+◌, ◌-◌, ◌*◌, ◌≤◌, ◌<◌}
 use mathlib.Core.Path.{◌≡◌, refl}
-use mathlib.Core.List.{List, [], ◌∷◌, ◌++◌}
+use mathlib.Core.List.{List, [], ◌++◌}
 use native.Mathlib.Omega.{arith}
 use lib.ListN.{length, length-append}
 use lib.Dec.{eqb}
-use borrow.Author.Tests.{eq-eqb, ne_eqb}
 use Rattle.rules.specs.declared.State.{State}
 use Rattle.rules.specs.declared.refusal.Refusal.{Refusal}
 use Rattle.rules.specs.Calls.{answer_by}
@@ -21,18 +20,9 @@ pub state_told : (s : State) (passed : Result State Refusal) → (answer_by s pa
 state_told s (Ok next) = refl
 state_told s (Err refusal) = refl
 
-module _ (duty : ℕ) where
-  pub block_none : duty ≡ 0 → 0x20 ∷ [] ≡ block_of duty
-  unfolding block_of
-  block_none e = rw (eq-eqb duty 0 e)
-
-  pub block-some : (duty ≡ 0 → ⊥) → 0xE2 ∷ 0x96 ∷ (0x81 + min (duty / 64) 7) ∷ [] ≡ block_of duty
-  unfolding block_of
-  block-some h = rw (ne_eqb duty 0 h)
-
-  block-length : length (block_of duty) ≤ 3
-  unfolding block_of
-  block-length = by-test (eqb duty 0) (λ t. rw t (omega arith)) (λ f. rw f (omega arith))
+block-length : (duty : ℕ) → length (block_of duty) ≤ 3
+unfolding block_of
+block-length duty = by-test (eqb duty 0) (λ t. rw t (omega arith)) (λ f. rw f (omega arith))
 
 -- ---- texts one after the other, up to a last one
 module _ (text : ℕ → List ℕ) (n last : ℕ) where

@@ -30,6 +30,7 @@ fn ticks_at(ticks: u32, column: u32) -> u32
     (u64::from(ticks) * u64::from(column) / 64) as u32
 }
 
+#[tactic(auto, unfolding(crate::specs::Chart::block_of))]
 fn put_block(page: &mut Page, duty: u16)
     ensures { Puts (block_of duty) page.old page.new }
 {
