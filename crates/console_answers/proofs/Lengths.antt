@@ -1,16 +1,19 @@
 -- The texts of a reading and of a speed, part by part, and how long they are.
 use Prim.Native.Nat.{ℕ, ◌+◌, ◌*◌, ◌≤◌, ◌<◌}
-use mathlib.Core.Path.{◌≡◌}
+use mathlib.Core.Path.{◌≡◌, refl}
 use mathlib.Core.Bool.{false}
 use mathlib.Core.List.{List, [], ◌∷◌, ◌++◌}
 use native.Mathlib.Numerals.{add-one}
 use native.Mathlib.Omega.{arith}
 use lib.ListN.{length, get_or, drop, drop_of_length-le, length-append}
 use lib.Seq.{drop-cons}
-use lib.Ieee.{Float}
+use lib.Ieee.{Float, binary64, of_bits, round}
+use Rattle.std.specs.Prelude.{Result, Ok, Err}
+use Rattle.rules.specs.declared.refusal.Refusal.{Refusal}
 use Rattle.rules.specs.declared.Reading.{Reading}
 use Rattle.rules.specs.declared.Speed.{Speed}
-use Rattle.rules.specs.declared.Speed.TheVariants.{Rpm, Stopped, TooFast, Refused}
+use Rattle.rules.specs.declared.Speed.TheVariants.{Rpm, Stopped, TooFast}
+use Rattle.rules.specs.Reading.{over512}
 use Rattle.console_text.specs.Fraction.{parts_of, nine_decimals}
 use Rattle.console_text.proofs.Lengths.{digits-length, nine-length}
 use Rattle.console_outcome.proofs.Lines.{plain-length}
@@ -31,6 +34,11 @@ unfolding spaced_parts
 parts-length [] = omega arith
 parts-length (x ∷ parts) = rw length-append (omega (arith, nine-length (parts_of x), parts-length parts))
 
+-- no 512ths
+pub nothing-over512 : over512 0 ≡ of_bits binary64 0
+unfolding over512 round of_bits
+nothing-over512 = refl
+
 -- a reading is seven parts
 pub reading-length : (r : Reading) → length r.shares ≡ 6 → length (reading_text r) ≤ reading_most
 reading-length r six = omega (arith, parts-length (r.seconds ∷ r.shares))
@@ -39,9 +47,9 @@ pub cabin-length : (refusal : ℕ) (r : Reading) → length (reading_text r) ≤
 unfolding cabin_text
 cabin-length refusal r h = rw (length-append, length-append) (omega (arith, digits-length 1 refusal))
 
-pub speed-length : (speed : Speed) → length (speed_line speed) ≤ speed_most
+pub speed-length : (speed : Result Speed Refusal) → length (speed_line speed) ≤ speed_most
 unfolding speed_line
-speed-length (Rpm n) = plain-length false _
-speed-length Stopped = omega arith
-speed-length TooFast = omega arith
-speed-length Refused = plain-length false _
+speed-length (Ok (Rpm n)) = plain-length false _
+speed-length (Ok Stopped) = omega arith
+speed-length (Ok TooFast) = omega arith
+speed-length (Err refusal) = plain-length false _

@@ -1,6 +1,6 @@
 -- A run as the answer to a line, and a record.
 use Prim.Native.Nat.{ℕ, ◌≤◌, min}
-use mathlib.Core.Path.{◌≡◌, ap, ◌∙◌}
+use mathlib.Core.Path.{◌≡◌, refl, ap, ◌∙◌}
 use mathlib.Core.List.{List, [], ◌∷◌, ◌++◌}
 use native.Mathlib.Omega.{arith}
 use lib.ListN.{length, take, drop, length-append, length-drop}
@@ -11,6 +11,12 @@ use Rattle.strings.specs.declared.order.Order.{Order}
 use Rattle.strings.specs.Types.{RunAnswer}
 use Rattle.strings.specs.Encode.{encoded}
 use Rattle.strings.specs.Run.{answers_too_short, Ran, ran, run_on, Given, given, ended, run_of}
+use Rattle.std.specs.Prelude.{Option, Some, Result, Ok}
+use Rattle.strings.specs.declared.Found.{Found}
+use Rattle.strings.specs.declared.refusal.StringRefusal.{StringRefusal}
+use Rattle.strings.specs.String.{record_at}
+use Rattle.strings.specs.Refusals.{found_by}
+use Rattle.strings.proofs.Fronts.{FoundAhead, record-ahead}
 use Rattle.strings.proofs.Parts.{of-each-way}
 use Rattle.encode.proofs.Lengths.{record-length}
 use Rattle.lent.specs.Put.{Put}
@@ -57,3 +63,9 @@ record-put order {before} {after} {next} long p =
 pub record-told : (hand : Hand) (order : Order) {before after : List ℕ} {next : ℕ} {says : Told} → 11 ≤ length before →
     Put (encoded order) 0 before after next → says ≡ tells_bytes hand [] (take next after) → says ≡ encode_told hand order
 record-told hand order long p t = rw (record-put order long p) at t
+
+-- a record that is found lies ahead, within the string
+pub found-ahead : (string : List ℕ) (at : ℕ) {found : Result (Option Found) StringRefusal} {known : Option Found} {one : Found} →
+    found_by found ≡ record_at string at → found ≡ Ok known → known ≡ Some one → FoundAhead string at one.call one.next
+found-ahead string at {found} {known} {one} e is here =
+    record-ahead string at (found_by found) e one.call one.next (rw (is, here) refl)

@@ -1,8 +1,8 @@
--- What the parts still to come make of the buffer stays the same.
+-- What the parts still to come make of the page stays the same.
 use Rattle.std.proofs.Common.{drop}
-use Rattle.lent.proofs.Stores.{Remains}
+use Rattle.lent.proofs.Stores.{Rests}
 use Rattle.console_answers.specs.Texts.{spaced_parts}
 use Rattle.console_answers.proofs.cabin.put_parts.Given as goal
 
-abbrev pub invariant-loop-i : goal.invariant-loop-i
-invariant-loop-i l = Remains (spaced_parts (drop l.i l.parts)) l.next l.out (spaced_parts l.parts) l.at l.fn.out
+abbrev pub invariant-loop-part : goal.invariant-loop-part
+invariant-loop-part l = Rests (spaced_parts (drop l.part-index l.part-items)) l.page (spaced_parts l.part-items) l.fn.page

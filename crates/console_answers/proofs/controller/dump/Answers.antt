@@ -5,4 +5,4 @@ use Rattle.numbers.specs.Numbers.{number_count}
 use Rattle.console_answers.proofs.controller.dump.Goals as goal
 
 pub returns : goal.returns
-returns c = λ buffer. rw (take_all number_count c.numbers_of-numbers.result (search rules), c.numbers_of-numbers.ensures.0)
+returns c = λ buffer. rw (take_all number_count c.numbers_of.result (search rules), c.numbers_of.ensures.0) at c.tell.ensures buffer
