@@ -6,7 +6,7 @@ use native.Mathlib.Omega.{arith}
 use lib.ListN.{length, take, drop, take-append-drop}
 use lib.Seq.{length-take-le}
 use Rattle.std.specs.Prelude.{Option, None, Some}
-use Rattle.std.specs.Option.{is_some}
+use Rattle.std.specs.Option.{is_some, option_to_list}
 use Rattle.rules.specs.declared.State.{State}
 use Rattle.rules.specs.declared.Call.{Call}
 use Rattle.rules.specs.declared.Made.{Made}
@@ -19,13 +19,13 @@ use Rattle.strings.specs.String.{record_at}
 use Rattle.strings.specs.Run.{ran, after, answer_bytes, run_on, given, ended}
 use Rattle.strings.proofs.Fronts.{FoundAhead, record-ahead, ended_here, refused-here}
 use Rattle.strings.proofs.Runs.{after_nothing, used-up, at-the-end, malformed, call-taken, call-refused}
-use Rattle.orders.specs.Steps.{answer_of, TakesOne, Stops}
+use Rattle.orders.specs.Steps.{TakesOne, Stops}
 
 -- ---- one record
 
 -- a byte that is there exactly for a read is the answer of the call
 answer-is : (call : Call) (byte : Option ℕ) (s : State) → is_some byte ≡ is_read call →
-    answer_bytes call (read_answer accepted (byte_or_0 byte) s) ≡ answer_of byte
+    answer_bytes call (read_answer accepted (byte_or_0 byte) s) ≡ option_to_list byte
 answer-is call None s e = rw (sym e) refl
 answer-is call (Some byte) s e = rw (sym e) refl
 
