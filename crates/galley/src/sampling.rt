@@ -1,5 +1,6 @@
 // A sample of the temperature, and the target duties that it writes.
-ghost use Rattle.std.specs.Prelude.{◌≡◌};
+ghost use Rattle.std.specs.Prelude.{◌≡◌, ◌+◌, ◌*◌, ◌<◌};
+ghost use Rattle.rules.specs.WriteWord.{write_word_of};
 ghost use Rattle.rules.specs.Make.{after_each, targets};
 ghost use Rattle.galley_rules.specs.Sample.{calls_from, sample_of};
 ghost use Rattle.galley_rules.specs.Refusals.{sample_by};
@@ -11,19 +12,31 @@ use galley_rules::{Galley, GalleyRefusal, Sample};
 use rules::State;
 use write_word::write_word;
 
+// Writes a word to the target of a channel. Where it is refused the state stays. A function apart: inside `drive` each word takes some
+// 90 instructions more.
+#[inline(never)]
+fn write_target(state: &mut State, i: usize, word: u16)
+    requires { i < 6 }
+    ensures { state.new ≡ (write_word_of state.old (0x40 + 2 * i) word).state }
+{
+    if let Ok(written) = write_word(*state, 0x40 + 2 * i as u32, word) {
+        *state = written;
+    }
+}
+
 // Writes a duty to those of the six targets that differ, from channel 1 up, a word each. No write is refused where the state is valid.
-fn drive(state: State, duty: u16) -> State
+fn drive(mut state: State, duty: u16) -> State
     ensures { result ≡ after_each state (calls_from duty 0 (targets state)) }
 {
     let word = words::duty_word(duty);
-    let mut next = state;
-    for (i, channel) in state.channels.iter().enumerate() {
-        let differs = channel.target != duty;
+    let targets = state.channels.map(|channel| channel.target);
+    for (i, target) in targets.iter().enumerate() {
+        let differs = *target != duty;
         if differs {
-            next = write_word(next, 0x40 + 2 * i as u32, word).unwrap_or(next);
+            write_target(&mut state, i, word);
         }
     }
-    next
+    state
 }
 
 // Takes a sample: the row follows it, ALERT and SHDN are told, and the controller's targets become the row's duty.

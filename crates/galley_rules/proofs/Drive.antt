@@ -2,7 +2,7 @@
 use Prim.Native.Nat.{ℕ, zero, suc, ◌+◌, ◌*◌, ◌≤◌, ◌<◌}
 use mathlib.Core.Path.{◌≡◌, refl, sym, ◌∙◌, ap}
 use mathlib.Core.Bool.{true, false}
-use mathlib.Core.List.{List, [], ◌∷◌, ◌++◌, map}
+use mathlib.Core.List.{List, [], ◌∷◌, ◌++◌}
 use native.Mathlib.Numerals.{add-one}
 use native.Mathlib.Omega.{arith}
 use lib.Dec.{eqb, ltb}
@@ -11,20 +11,16 @@ use lib.ListN.{length, get_or, set, drop, replicate, length-map, length-set, dro
 use lib.Seq.{drop-cons}
 use borrow.Author.Tests.{eq-eqb, ne_eqb, eqb-true, ltb-true}
 use Rattle.rules.specs.declared.Channel.{Channel}
-use Rattle.rules.specs.declared.refusal.Refusal.{Refusal}
-use Rattle.rules.specs.Types.{Answer}
-use Rattle.std.specs.Prelude.{Result, Ok, Err, if◌then◌else◌}
-use Rattle.std.specs.Result.{result_unwrap_or}
+use Rattle.std.specs.Prelude.{if◌then◌else◌}
 use Rattle.rules.specs.Basics.{every}
-use Rattle.rules.specs.State.{blank}
 use Rattle.rules.specs.Words.{duty_word}
-use Rattle.rules.specs.Calls.{accepted, answer_by}
+use Rattle.rules.specs.Calls.{accepted}
 use Rattle.rules.specs.Valid.{valid_of}
 use Rattle.rules.specs.Start.{start_of}
 use Rattle.rules.specs.WriteWord.{write_word_of}
 use Rattle.rules.specs.Make.{made, after_each, targets, target_call}
 use Rattle.rules.proofs.Tests.{choice, every-at}
-use Rattle.laws.proofs.Each.{map_at, length_before}
+use Rattle.laws.proofs.Each.{length_before}
 use Rattle.laws.proofs.Kept.{start-valid}
 use Rattle.laws.proofs.Keep.{calls-keep, each_none, each_first, AllAccepted, accepted-none, accepted-first}
 use Rattle.laws.proofs.Targets.{start-targets, target-call-is, target-call-accepted, target-call-set}
@@ -88,39 +84,29 @@ module _ (duty : ℕ) (small : duty < 512) where
         accepted-first s call (calls_from duty (suc i) ts) (target-call-accepted s i duty v below) rest.1,
       ))
 
-state-by : (s : State) (r : Result State Refusal) (a : Answer) → answer_by s r ≡ a → result_unwrap_or r s ≡ a.state
-state-by s (Ok next) a e = ap (λ a. a.state) e
-state-by s (Err refusal) a e = ap (λ a. a.state) e
-
--- a loop over the channels: what is left to do before and after the one with index i
-module _ (duty : ℕ) (channels : List Channel) where
+-- a loop over the targets: what is left to do before and after the one with index i
+module _ (duty : ℕ) (ts : List ℕ) where
   abbrev pub left_from : ℕ → List Call
-  left_from i = calls_from duty i (drop i (map (λ ch. ch.target) channels))
+  left_from i = calls_from duty i (drop i ts)
 
-  left_here : (i : ℕ) → i < length channels →
-      left_from i ≡ (if eqb (get_or channels i blank).target duty then left_from (i + 1) else target_call i duty ∷ left_from (i + 1))
+  left_here : (i : ℕ) → i < length ts →
+      left_from i ≡ (if eqb (get_or ts i 0) duty then left_from (i + 1) else target_call i duty ∷ left_from (i + 1))
   unfolding calls_from
-  left_here i h =
-      let ts = map (λ ch. ch.target) channels in
-      let front = drop-cons ts i 0 (rw length-map h) ∙ ap (λ t. t ∷ drop (suc i) ts) (map_at (λ ch. ch.target) channels i blank 0 h) in
-      rw add-one (ap (calls_from duty i) front)
+  left_here i h = rw add-one (ap (calls_from duty i) (drop-cons ts i 0 h))
 
-  -- its target is written, by a word; a refused write, of which there is none, would leave the state
-  pub left-written : (s : State) (i : ℕ) (r : Result State Refusal) → i < length channels → ((get_or channels i blank).target ≡ duty → ⊥) →
-      answer_by s r ≡ write_word_of s (0x40 + 2 * i) (duty_word duty) → after_each (result_unwrap_or r s) (left_from (i + 1)) ≡ after_each s (left_from i)
-  left-written s i r h other e =
-      let call = target_call i duty in
-      ap (λ s. after_each s (left_from (i + 1))) (state-by s r _ e ∙ target-call-is s i duty)
-      ∙ sym (ap (after_each s) (rw (ne_eqb (get_or channels i blank).target duty other) at (left_here i h)) ∙ each_first s call (left_from (i + 1)))
+  -- its target is written, by a word
+  pub left-written : (s : State) (i : ℕ) → i < length ts → (get_or ts i 0 ≡ duty → ⊥) →
+      after_each (write_word_of s (0x40 + 2 * i) (duty_word duty)).state (left_from (i + 1)) ≡ after_each s (left_from i)
+  left-written s i h other =
+      ap (λ s. after_each s (left_from (i + 1))) (target-call-is s i duty)
+      ∙ sym (ap (after_each s) (rw (ne_eqb (get_or ts i 0) duty other) at (left_here i h)) ∙ each_first s (target_call i duty) (left_from (i + 1)))
 
-  pub left-right : (s : State) (i : ℕ) → i < length channels → (get_or channels i blank).target ≡ duty →
-      after_each s (left_from (i + 1)) ≡ after_each s (left_from i)
-  left-right s i h same = sym (ap (after_each s) (rw (eq-eqb (get_or channels i blank).target duty same) at (left_here i h)))
+  pub left-right : (s : State) (i : ℕ) → i < length ts → get_or ts i 0 ≡ duty → after_each s (left_from (i + 1)) ≡ after_each s (left_from i)
+  left-right s i h same = sym (ap (after_each s) (rw (eq-eqb (get_or ts i 0) duty same) at (left_here i h)))
 
-  pub left-none : (s : State) (i : ℕ) → length channels ≤ i → after_each s (left_from i) ≡ s
+  pub left-none : (s : State) (i : ℕ) → length ts ≤ i → after_each s (left_from i) ≡ s
   unfolding calls_from
-  left-none s i h =
-      ap (λ l. after_each s (calls_from duty i l)) (drop_of_length-le (map (λ ch. ch.target) channels) {i = i} (rw length-map h)) ∙ each_none s
+  left-none s i h = ap (λ l. after_each s (calls_from duty i l)) (drop_of_length-le ts {i = i} h) ∙ each_none s
 
 -- a byte of a table is no duty above full
 duty-small : (v : ℕ) → ltb v 256 ≡ true → duty_of v < 512

@@ -1,26 +1,29 @@
 -- A channel is written where its target differs, and passed over where it is right.
-use Rattle.std.proofs.Common.{rules, arith, ◌≡◌, length, sym, ◌∙◌}
-use Rattle.laws.proofs.Each.{length_before}
+use Rattle.std.proofs.Common.{rules, arith, refl, sym, ◌∙◌}
+use Rattle.rules.specs.declared.Channel.{Channel}
+use Rattle.laws.proofs.Each.{map-from_IsMapOf}
 use Rattle.galley_rules.proofs.Drive.{left-written, left-right, left-none}
 use Rattle.galley.proofs.sampling.drive.Goals as goal
 use Rattle.galley.proofs.sampling.drive.Goals.{then-differs, else-differs}
 
+pub loop-i-init : goal.loop-i-init
+loop-i-init c =
+    let read = map-from_IsMapOf (λ (channel : Channel). channel.target) c.map-targets.ensures.items (omega arith) (λ x r q k. search rules) in
+    rw read refl
+
 pub loop-i-preserved : goal.loop-i-preserved
 loop-i-preserved c =
-    let channels = c.args.state.channels in
-    let six : length channels ≡ 6 = search (rules, length_before) in
+    let six = c.map-targets.ensures.items.long in
     elim c.if-differs.branch [
       | then-differs w ↦
-          rw (w.next-is, w.unwrap_or-next.ensures)
-          (left-written c.args.duty channels c.loop-i.next c.loop-i.i _ (omega (arith, six)) w.if-differs.true
-          (rw c.duty_word-word.ensures at w.write_word.ensures)
-          ∙ c.loop-i.invariant)
+          rw (w.state-is, w.write_target.ensures, c.duty_word-word.ensures)
+          (left-written c.args.duty c.map-targets.result c.loop-i.state c.loop-i.i (omega (arith, six)) w.if-differs.true ∙ c.loop-i.invariant)
       | else-differs w ↦
-          rw w.next-is (left-right c.args.duty channels c.loop-i.next c.loop-i.i (omega (arith, six)) w.if-differs.false ∙ c.loop-i.invariant)
+          rw w.state-is
+          (left-right c.args.duty c.map-targets.result c.loop-i.state c.loop-i.i (omega (arith, six)) w.if-differs.false ∙ c.loop-i.invariant)
     ]
 
 pub returns : goal.returns
 returns c =
-    let channels = c.args.state.channels in
-    let six : length channels ≡ 6 = search (rules, length_before) in
-    sym (left-none c.args.duty channels c.loop-i.next c.loop-i.i (omega (arith, six))) ∙ c.loop-i.invariant
+    let six = c.map-targets.ensures.items.long in
+    sym (left-none c.args.duty c.map-targets.result c.loop-i.state c.loop-i.i (omega (arith, six))) ∙ c.loop-i.invariant

@@ -7,4 +7,4 @@ use Rattle.galley.proofs.sampling.drive.Given as goal
 
 abbrev pub invariant-loop-i : goal.invariant-loop-i
 invariant-loop-i l =
-    after_each l.next (left_from l.duty l.channel-items l.i) ≡ after_each l.fn.state (calls_from l.duty 0 (targets l.fn.state))
+    after_each l.state (left_from l.duty l.target-items l.i) ≡ after_each l.fn.state (calls_from l.duty 0 (targets l.fn.state))
