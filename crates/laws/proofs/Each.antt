@@ -1,17 +1,14 @@
--- A loop over the elements of a list, one after the other from the first on: it changes them, or tests them.
-use Prim.Native.Nat.{ℕ, zero, suc, ◌+◌, ◌≤◌, ◌<◌}
+-- A list whose elements are all changed.
+use Prim.Native.Nat.{ℕ, zero, suc, ◌+◌, ◌<◌}
 use mathlib.Core.Path.{◌≡◌, refl, sym, ◌∙◌, ap, ap₂}
-use mathlib.Core.Bool.{Bool, true, ◌&&◌}
-use mathlib.Core.List.{List, [], ◌∷◌, ◌++◌, map}
+use mathlib.Core.List.{List, [], ◌∷◌, map}
 use native.Mathlib.Numerals.{add-one}
 use native.Mathlib.Omega.{arith}
-use lib.ListN.{length, get_or, set, take, drop, length-map, length-set}
-use lib.Seq.{take-suc, take-suc-set, take_all, drop-cons}
+use lib.ListN.{length, get_or, drop, length-map}
+use lib.Seq.{drop-cons}
 use Rattle.std.proofs.lemmas.List.{drop_all}
 use Rattle.std.specs.Fn.{Mut, Called}
 use Rattle.std.specs.Array.{MapsFrom, IsMapOf}
-use Rattle.rules.specs.Basics.{every}
-use Rattle.rules.proofs.Tests.{every_take}
 
 -- element i of a list whose elements are all changed
 pub map_at : {A B : Type 0} (f : A → B) (xs : List A) (i : ℕ) (d : A) (e : B) → i < length xs → get_or (map f xs) i e ≡ f (get_or xs i d)
@@ -48,46 +45,3 @@ module _ {F A B : Type 0} {g : Mut F (A × Unit {0}) B} (h : A → B) {f : F} wh
   pub map-from_IsMapOf : {xs : List A} {ys : List B} {n : ℕ} → IsMapOf g f xs ys n → length xs ≡ n →
       ((x : A) (r : B) (q : F) → Called g f (x, tt) r q → (q ≡ f) × (r ≡ h x)) → ys ≡ map h xs
   map-from_IsMapOf {xs} {ys} {n} m long each = mapped_from each xs ys n 0 f refl (omega arith) (omega (arith, m.long)) m.each
-
--- a list that a loop fills with the changed elements: the first n are there
-module _ {A B : Type 0} (f : A → B) (xs : List A) where
-  pub record Filled (ys : List B) (n : ℕ) : Type 0 where
-    pub front : take n ys ≡ take n (map f xs)
-    pub long : length ys ≡ length xs
-    pub few : n ≤ length xs
-
-  pub filled_none : (ys : List B) → length ys ≡ length xs → Filled ys 0
-  filled_none ys l = record { front = refl; long = l; few = omega arith }
-
-  pub filled_more : (ys : List B) (n : ℕ) (y : B) (d : A) → Filled ys n → n < length xs → y ≡ f (get_or xs n d) → Filled (set ys n y) (n + 1)
-  filled_more ys n y d v h e =
-      let last : get_or (map f xs) n y ≡ y = map_at f xs n d y h ∙ sym e in
-      record {
-        front =
-            rw add-one
-            (take-suc-set ys n y (omega (arith, v.long))
-            ∙ ap₂ (λ zs z. zs ++ (z ∷ [])) v.front (sym last)
-            ∙ sym (take-suc (map f xs) n y (rw length-map h)));
-        long = length-set ys n y ∙ v.long;
-        few = omega arith;
-      }
-
-  pub filled-all : (ys : List B) (n : ℕ) → length xs ≤ n → Filled ys n → ys ≡ map f xs
-  filled-all ys n h v = sym (take_all n ys (omega (arith, v.long))) ∙ v.front ∙ take_all n (map f xs) (rw length-map h)
-
--- a flag that a loop makes false where a test fails: the first n are tested
-module _ {A : Type 0} (test : A → Bool) (xs : List A) where
-  pub record Tested (flag : Bool) (n : ℕ) : Type 0 where
-    pub front : flag ≡ every test (take n xs)
-    pub few : n ≤ length xs
-
-  pub tested-none : Tested true 0
-  tested-none = record { front = refl; few = omega arith }
-
-  pub tested-more : (flag : Bool) (n : ℕ) (d : A) (told : Bool) → Tested flag n → n < length xs → told ≡ test (get_or xs n d) →
-      Tested (flag && told) (n + 1)
-  tested-more flag n d told v h e =
-      record { front = rw add-one (ap₂ ◌&&◌ v.front e ∙ sym (every_take test xs n d h)); few = omega arith }
-
-  pub tested-all : (flag : Bool) (n : ℕ) → length xs ≤ n → Tested flag n → flag ≡ every test xs
-  tested-all flag n h v = v.front ∙ ap (every test) (take_all n xs h)

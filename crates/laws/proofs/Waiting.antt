@@ -156,16 +156,12 @@ alone-none k (suc m) t ch none =
 unfoldable pub start_shift : Channel → ℕ
 start_shift ch = if ltb 0 (spin_code ch.config) then 0 else rate_code ch.dynamics - 1
 
-pub start-shift-lt : (ch : Channel) → start_shift ch < 8
+start-shift-lt : (ch : Channel) → start_shift ch < 8
 unfolding start_shift
 start-shift-lt ch = choice (λ n. n < 8) (ltb 0 (spin_code ch.config)) 0 (rate_code ch.dynamics - 1) (λ _. omega arith) (λ _. omega arith)
 
 pub start-shift-wrap : (ch : Channel) (x : ℕ) → x % 2 ^ 32 % 2 ^ start_shift ch ≡ x % 2 ^ start_shift ch
 start-shift-wrap ch x = wrap-keeps-remainder (start_shift ch) x (omega (arith, start-shift-lt ch))
-
--- that power; 8 where it does not wait
-unfoldable pub wait_shift : Conditions → Channel → ℕ
-wait_shift k ch = if waits k ch then start_shift ch else 8
 
 module _ (k : Conditions) (ch : Channel) (w : waits k ch ≡ true) (rests : ch.spin ≡ 0) where
   due-is : spin_up_due ch ≡ ltb 0 (spin_code ch.config)
@@ -245,10 +241,6 @@ module _ (k : Conditions) (ch : Channel) where
 
   pub waits-not-wanted : wanted ch ≡ 0 → false ≡ waits k ch
   waits-not-wanted z = sym (none-away k ch (λ _. z))
-
-  pub waits-else : ch.ramp ≡ 0 → (wanted ch ≡ 0 → ⊥) → not (overridden k ch) ≡ waits k ch
-  unfolding waits
-  waits-else z goal = rw (eq-eqb ch.ramp 0 z, lt-ltb 0 (wanted ch) (omega (arith, goal))) refl
 
 -- ---- the channels after so many ticks, each by itself after those that it skips
 

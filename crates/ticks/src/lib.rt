@@ -4,8 +4,6 @@
 ghost use Rattle.std.specs.Prelude.{◌≡◌, ◌-◌, ◌≤◌, true, nat_le};
 ghost use Rattle.rules.specs.Basics.{every};
 ghost use Rattle.rules.specs.Calls.{answer_by};
-ghost use Rattle.rules.specs.Time.{clock_after};
-ghost use Rattle.rules.specs.Valid.{valid_of};
 ghost use Rattle.rules.specs.Tick.{idle_limit, tick, iterate, ticks_passed};
 ghost use Rattle.rules.specs.Make.{each_passed};
 ghost use Rattle.laws.proofs.Valid.{few_pulses};
@@ -13,6 +11,7 @@ ghost use Rattle.laws.proofs.Waiting.{stood};
 ghost use Rattle.laws.proofs.StateTicks.{counting, row_after, timed};
 
 use crate::channel::pass;
+use crate::valid_state::ValidState;
 use crate::waiting::waited_in;
 use device::codes::watchdog_limit;
 use device::duty::{conditions, overridden};
@@ -22,9 +21,11 @@ use rules::{Channel, Conditions, Refusal, State, Timer};
 use turns::fall;
 
 mod channel;
+mod valid_state;
 mod waiting;
 
-// Each channel by itself, after the ticks that it waited.
+// Each channel by itself, after the ticks that it waited. Their index and no zip: of `iter_mut().zip(waited)` no invariant can say what was
+// written, and a settled jump takes 137 instructions more with it.
 fn pass_channels(
     now: Conditions,
     channels: &mut [Channel; 6],
@@ -63,21 +64,20 @@ struct Span {
 }
 
 // Where the watchdog expires on the way, that tick is frozen already but for the wait, and so is every later one.
-fn span_of(state: State, ticks: u32) -> Span
-    requires { valid_of state ≡ true }
-    ensures { (result.moving ≤ ticks) × (iterate ticks tick state ≡ let row = row_after result.moving state in let t = result.timer in timed state (row.0 - (ticks - result.moving), row.1) t.clock t.idle t.expired t.status) }
+fn span_of(given: ValidState, ticks: u32) -> Span
+    ensures { (result.moving ≤ ticks) × (iterate ticks tick given.state ≡ let row = row_after result.moving given.state in let t = result.timer in timed given.state (row.0 - (ticks - result.moving), row.1) t.clock t.idle t.expired t.status) }
 {
     let timer = Timer {
-        clock: state.timer.clock.wrapping_add(ticks),
-        ..state.timer
+        clock: given.state.timer.clock.wrapping_add(ticks),
+        ..given.state.timer
     };
-    if !is_counting(state) {
+    if !is_counting(given.state) {
         return Span {
             moving: ticks,
             timer,
         };
     }
-    let limit = idle_limit(state);
+    let limit = idle_limit(given.state);
     let room = limit - timer.idle - 1;
     if ticks <= u32::from(room) {
         return Span {
@@ -99,26 +99,25 @@ fn span_of(state: State, ticks: u32) -> Span
     }
 }
 
-// A valid state. From the tick on in which the watchdog expires, nothing moves but the clock and the wait. That the two kinds of span are
-// apart here costs nothing: with one place that calls them, `waited_in` and `pass_channels` would be inlined, and each jump dearer.
-fn passed(state: State, ticks: u32) -> State
-    requires { valid_of state ≡ true }
-    ensures { result ≡ iterate ticks tick state }
+// From the tick on in which the watchdog expires, nothing moves but the clock and the wait. That the two kinds of span are apart here costs
+// nothing: with one place that calls them, `waited_in` and `pass_channels` would be inlined, and each jump dearer.
+fn passed(given: ValidState, ticks: u32) -> State
+    ensures { result ≡ iterate ticks tick given.state }
 {
-    let now = conditions(state);
-    let span = span_of(state, ticks);
-    let before = state.timer.clock;
+    let now = conditions(given.state);
+    let span = span_of(given, ticks);
+    let before = given.state.timer.clock;
     let mut next = State {
         timer: span.timer,
-        ..state
+        ..given.state
     };
     if span.moving == ticks {
-        let free = waited_in(now, state, ticks);
+        let free = waited_in(now, given, ticks);
         pass_channels(now, &mut next.channels, free.ticks, before, ticks);
         next.timer.wait = free.wait;
         return next;
     }
-    let last = waited_in(now, state, span.moving);
+    let last = waited_in(now, given, span.moving);
     pass_channels(now, &mut next.channels, last.ticks, before, span.moving);
     next.timer.wait = fall(last.wait, ticks - span.moving);
     next
@@ -135,7 +134,7 @@ pub fn pass_ticks(state: State, ticks: u32) -> Result<State, Refusal>
     if ticks == 0 {
         return Ok(state);
     }
-    Ok(passed(state, ticks))
+    Ok(passed(ValidState { state }, ticks))
 }
 
 // Such calls in turn, each given the state that the one before left: what the paper calls a quiet span. The list would go on after a

@@ -2,12 +2,12 @@
 ghost use Rattle.std.specs.Prelude.{◌≡◌, true, not, map, nat_le};
 ghost use Rattle.rules.specs.Basics.{every};
 ghost use Rattle.rules.specs.Duty.{conditions_of};
-ghost use Rattle.rules.specs.Valid.{valid_of};
 ghost use Rattle.turns.specs.Turns.{ticks_waited};
 ghost use Rattle.laws.proofs.Waiting.{waits, above_zero, start_shift, stood};
 ghost use Rattle.laws.proofs.StateTicks.{row_after};
 ghost use Rattle.ticks.specs.Waiters.{waiter_of, turned};
 
+use crate::valid_state::ValidState;
 use device::codes::start_delay;
 use device::duty::{overridden, wanted};
 use registers::fields::{delay_code, rate_code, spin_code};
@@ -106,18 +106,18 @@ pub struct Waited {
     pub ticks: [u32; 6],
 }
 
-// Of a valid state, under the overrides of now. Each channel then goes by itself after the ticks that it waited; mostly none waits.
-pub fn waited_in(now: Conditions, state: State, ticks: u32) -> Waited
-    requires { (now ≡ conditions_of state) × (valid_of state ≡ true) }
-    ensures { ((result.wait, stood now ticks state.timer.clock result.ticks state.channels) ≡ row_after ticks state) × (every (λ n. nat_le n ticks) result.ticks ≡ true) }
+// Under the overrides of now. Each channel then goes by itself after the ticks that it waited; mostly none waits.
+pub fn waited_in(now: Conditions, given: ValidState, ticks: u32) -> Waited
+    requires { now ≡ conditions_of given.state }
+    ensures { ((result.wait, stood now ticks given.state.timer.clock result.ticks given.state.channels) ≡ row_after ticks given.state) × (every (λ n. nat_le n ticks) result.ticks ≡ true) }
 {
-    if none_waits(now, state) {
+    if none_waits(now, given.state) {
         return Waited {
-            wait: fall(state.timer.wait, ticks),
+            wait: fall(given.state.timer.wait, ticks),
             ticks: [0; 6],
         };
     }
-    let turns = turns_of(now, state, ticks);
+    let turns = turns_of(now, given.state, ticks);
     Waited {
         wait: turns.wait,
         ticks: waited_of(turns.waiters, ticks),

@@ -6,13 +6,13 @@ use Rattle.ticks.proofs.waiting.waited_in.Goals as goal
 
 pub returns-then-none_waits : goal.returns-then-none_waits
 returns-then-none_waits c = let a = c.args in (
-  ap (λ wait. (wait, stood a.now a.ticks a.state.timer.clock (replicate 6 0) a.state.channels)) c.fall.ensures
-      ∙ none-turned a.state a.ticks a.now c.requires.0 (sym c.none_waits.ensures ∙ c.if-none_waits.true) (omega arith),
+  ap (λ wait. (wait, stood a.now a.ticks a.given.state.timer.clock (replicate 6 0) a.given.state.channels)) c.fall.ensures
+      ∙ none-turned a.given.state a.ticks a.now c.requires (sym c.none_waits.ensures ∙ c.if-none_waits.true) (omega arith),
   rw (le-leb 0 a.ticks (omega arith)) refl,
 )
 
 pub returns : goal.returns
-returns c = let s = c.args.state in (
-  row-turned s c.requires.1 _ _ c.requires.0 _ c.turns_of-turns.ensures _ c.waited_of.ensures,
-  waited-low s c.requires.1 _ _ c.requires.0 _ c.turns_of-turns.ensures _ c.waited_of.ensures,
+returns c = let s = c.args.given.state in (
+  row-turned s c.args.given.is_valid _ _ c.requires _ c.turns_of-turns.ensures _ c.waited_of.ensures,
+  waited-low s c.args.given.is_valid _ _ c.requires _ c.turns_of-turns.ensures _ c.waited_of.ensures,
 )
