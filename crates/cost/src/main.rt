@@ -71,6 +71,18 @@ fn asking(state: State) -> Given {
     Given { number, state }
 }
 
+fn writing(state: State, address: u32, byte: u8) -> Given {
+    Given::of(state, write::write(state, address, byte))
+}
+
+fn judging(state: State) -> Given {
+    Given::of(state, tachometer::take_result(state, 6, 2047))
+}
+
+fn passing(state: State, ticks: u32) -> Given {
+    Given::of(state, pass_ticks(state, ticks))
+}
+
 // 0, 1, just so many that six fans have started, or very many.
 fn ticks_of(letter: u8) -> u32 {
     match letter {
@@ -85,11 +97,11 @@ fn ticks_of(letter: u8) -> u32 {
 fn call(state: State, letter: u8) -> Given {
     match letter {
         b'R' => reading(state),
-        b'S' => Given::of(state, write::write(state, 0x00, 0x80)),
-        b'W' => Given::of(state, write::write(state, 0x65, 0x12)),
-        b'T' => Given::of(state, tachometer::take_result(state, 6, 2047)),
+        b'S' => writing(state, 0x00, 0x80),
+        b'W' => writing(state, 0x65, 0x12),
+        b'T' => judging(state),
         b'F' => asking(state),
-        _ => Given::of(state, pass_ticks(state, ticks_of(letter))),
+        _ => passing(state, ticks_of(letter)),
     }
 }
 

@@ -53,9 +53,7 @@ fn one_by_one(state: State) -> Given {
     for call in LISTED.iter().cycle().take(64) {
         if let Ok(made) = calls::make(given.state, *call) {
             given = Given {
-                number: given
-                    .number
-                    .wrapping_add(u32::from(made.byte.unwrap_or(0))),
+                number: given.number.wrapping_add(u32::from(made.byte.unwrap_or(0))),
                 state: made.state,
             };
         }

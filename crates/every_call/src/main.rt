@@ -5,6 +5,7 @@
 
 use counting::{letters, six_bits};
 use galley_rules::{Sample, TABLE_BYTES};
+use lent::front;
 use records::reader::next_at;
 use rules::{ByteRead, Call, Made, Reading, Refusal, Speed, State};
 use strings::{Found, Order, StringRefusal};
@@ -46,8 +47,7 @@ fn passed(letters: [u8; 18]) -> State {
 fn changed(rt: &impl Print, state: State, letters: [u8; 18]) -> State {
     let channel = six_bits(letters[8]);
     let state = pulse::take_pulse(state, channel).unwrap_or(state);
-    let state =
-        tachometer::take_result(state, channel, six_bits(letters[9]) << 5).unwrap_or(state);
+    let state = tachometer::take_result(state, channel, six_bits(letters[9]) << 5).unwrap_or(state);
     let state = pin::set_pin(state, letters[10] == b'A').unwrap_or(state);
     let read = read::read(state, six_bits(letters[4])).unwrap_or(ByteRead { byte: 0, state });
     tell(rt, b"read ", u64::from(read.byte));
@@ -106,12 +106,14 @@ fn ran(rt: &impl Print, state: State, letters: [u8; 18]) -> State {
     let write = Call::Write(six_bits(letters[4]), letters[5]);
     let first = encode::encode(Order::from(write), &mut string, 0);
     let read = Call::Read(six_bits(letters[11]));
-    encode::encode(Order::from(read), &mut string, first);
-    tell(rt, b"record to ", end_of(next_at(&string, first)));
+    let end = encode::encode(Order::from(read), &mut string, first);
+    let string = front(&string, end);
+    tell(rt, b"record to ", end_of(next_at(string, first)));
     let mut answers = [0; 5];
-    let run = orders::run(state, &string, six_bits(letters[12]), &mut answers);
+    let run = orders::run(state, string, six_bits(letters[12]), &mut answers);
     tell(rt, b"taken ", u64::from(run.taken));
-    tell(rt, b"answered ", u64::from(answers[0]));
+    let answered = if orders::is_read(read) { answers[0] } else { 0 };
+    tell(rt, b"answered ", u64::from(answered));
     run.state
 }
 
@@ -134,7 +136,11 @@ fn served(rt: &impl Print, state: State, letters: [u8; 18]) -> State {
         },
     );
     let flags = u64::from(sample.alert) << 8 | u64::from(sample.shutdown) << 4;
-    tell(rt, b"alert, shutdown, row ", flags | u64::from(sample.galley.row));
+    tell(
+        rt,
+        b"alert, shutdown, row ",
+        flags | u64::from(sample.galley.row),
+    );
     let first = six_bits(letters[11]);
     let end = six_bits(letters[9]);
     let rows = match galley::rows(sample.galley, first, end, &table, &table) {
