@@ -68,8 +68,8 @@ fn put_line(page: &mut Page, state: State, channel: ChannelIndex, ticks: u32)
     page.put(b"\n");
 }
 
-#[tactic(auto, using(crate::proofs::Texts::chart_length), unfolding(crate::specs::Chart::chart_of))]
 // How the duties go over the next ticks if nothing is sent.
+#[tactic(auto, using(crate::proofs::Texts::chart_length), unfolding(crate::specs::Chart::chart_of))]
 pub fn put_chart(page: &mut Page, state: State, ticks: u32)
     ensures put { Puts (chart_of state ticks) page.old page.new }
     ensures ticks_len_bound { length (chart_of state ticks) ≤ chart_most }

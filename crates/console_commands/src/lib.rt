@@ -51,6 +51,7 @@ pub struct Arguments {
     pub bytes: [u8; LINE_BYTES],
 }
 
+// By hand, since an array of more than 32 has no `Default` that a derive could use.
 impl Default for Arguments {
     ghost is_default = { λ arguments. (arguments.values ≡ replicate number_count 0) × (arguments.bytes ≡ replicate line_bytes 0) };
 

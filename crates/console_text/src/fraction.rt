@@ -32,8 +32,8 @@ fn put_point(page: &mut Page, whole: u32, decimals: u32, places: u32)
     put_digits(page, decimals, places);
 }
 
-#[tactic(auto, unfolding(crate::specs::Fraction::nine_decimals))]
 // Puts a number of 512ths in decimal, with nine decimals.
+#[tactic(auto, unfolding(crate::specs::Fraction::nine_decimals))]
 pub fn put_nine_decimals(page: &mut Page, n: u32)
     ensures { Puts (nine_decimals n) page.old page.new }
 {
@@ -47,8 +47,8 @@ pub fn put_512ths(page: &mut Page, x: f64)
     put_nine_decimals(page, parts(x));
 }
 
-#[tactic(auto, unfolding(crate::specs::Fraction::three_decimals))]
 // Puts a number of eighths in decimal, with three decimals.
+#[tactic(auto, unfolding(crate::specs::Fraction::three_decimals))]
 pub fn put_eighths(page: &mut Page, n: u32)
     ensures { Puts (three_decimals n) page.old page.new }
 {

@@ -60,8 +60,8 @@ impl Gathered {
         }
     }
 
-    #[tactic(auto, unfolding(crate::specs::Words::ended_of))]
     // What the line is, by the bytes that were kept of it.
+    #[tactic(auto, unfolding(crate::specs::Words::ended_of))]
     pub fn end(self, line: &[u8]) -> Ended
         ensures { result ≡ ended_of self.kept self.total line.now }
     {

@@ -49,8 +49,8 @@ fn after_sign(number: Result<u32, NumberError>) -> Result<Signed, SignedError>
     }
 }
 
-#[tactic(auto, unfolding(crate::specs::Signed::signed_of))]
 // What a word is as a signed number: the sign is for decimal digits alone.
+#[tactic(auto, unfolding(crate::specs::Signed::signed_of))]
 pub fn parse_signed(text: &[u8]) -> Result<Signed, SignedError>
     ensures { result ≡ signed_of text.now }
 {

@@ -1,4 +1,5 @@
-// What the codes of the registers stand for.
+// What the codes of the registers stand for. Where there is no limit, time or delay the definitions give 0 and no `None` (`watchdog_limit`,
+// `spin_ticks`, `start_delay`), since the rules compare and count with it.
 ghost use Rattle.std.specs.Prelude.{◌≡◌, ◌%◌, ◌^◌, ◌≤◌};
 ghost use Rattle.rules.specs.Time.{watchdog_limit, spin_ticks, start_delay, ends_early, rate_period};
 ghost use Rattle.rules.specs.Tachometer.{queue_length};

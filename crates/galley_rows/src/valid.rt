@@ -5,7 +5,6 @@ ghost use Rattle.galley_rules.specs.Galley.{valid_galley};
 use crate::temperature::{LAST_ROW, in_range};
 use galley_rules::Galley;
 
-// Whether a call would take the state; the paper calls it sound.
 #[tactic(auto, unfolding(galley_rules::specs::Galley::valid_galley))]
 pub fn valid(galley: Galley) -> bool
     ensures { result ≡ valid_galley galley }

@@ -54,6 +54,7 @@ const CHANNEL_LIMITS: [u32; CHANNEL_NUMBERS] = [
 // to divide by 512 is a shift.
 const IN_512: usize = 512 / CHANNEL_NUMBERS + 1;
 
+// The most that a number of the state can be; past the last the definition gives 0 (`limit_at`).
 pub fn limit(i: usize) -> u32
     ensures { result ≡ limit_at i }
 {

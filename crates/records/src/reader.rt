@@ -1,5 +1,5 @@
 // A reader over a lent string, which hands out one record at a time. A string stays with its owner: a reader is the lent
-// slice and an index in it.
+// slice and an index in it, as the paper names it (docs/DECISIONS.md), and no iterator, since a string is malformed from some place on.
 ghost use Rattle.std.specs.Prelude.{◌≡◌};
 ghost use Rattle.strings.specs.Refusals.{found_by};
 ghost use Rattle.strings.specs.String.{record_at};

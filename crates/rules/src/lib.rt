@@ -53,7 +53,7 @@ pub struct StartValues {
     pub spinup: u8,
     pub target: u16,
     pub frequency: u8,
-    // 0 is A, 1 is B.
+    // 0 is A, 1 is B. No enum: `load` can give any number, and `dump` gives it back (`round-trips`).
     pub modification: u8,
 }
 
@@ -85,6 +85,7 @@ pub struct Conditions {
     pub pin: bool,
     pub standby: bool,
     pub expired: bool,
+    // The field as it is, which `failed_fan` tells apart.
     pub option: u8,
     // Some channel has its fault bit set.
     pub faulty: bool,
@@ -126,7 +127,8 @@ pub enum StatusRegister {
     Output(ChannelIndex, bool),
 }
 
-// What stands at an address, and so what may be done there.
+// What stands at an address, and so what may be done there. That nothing does is one of its answers and no `None`, as `place_at` and what
+// is asked of a place (`is_carried` and on) have it.
 #[derive(Clone, Copy)]
 pub enum Place {
     Absent,

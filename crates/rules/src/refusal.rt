@@ -15,7 +15,7 @@ pub enum Refusal {
 }
 
 impl Refusal {
-    // The number that stands for it; 0 stands for accepted.
+    // The number that stands for it; 0 stands for accepted. A method and no `From`, since its name says which number it is.
     pub fn number(self) -> u8
         ensures { result ≡ number_of self }
     {

@@ -54,7 +54,7 @@ fn bad_result(needed: u8, stored: u16, before: Results) -> Results
 }
 
 // What a result makes of those before it: of a tachometer that is enabled or not, judged or not, bad or not, where so many
-// bad ones in a row make a fault.
+// bad ones in a row make a fault. Three flags, as the definition `result_taken` has them.
 #[tactic(auto, unfolding(rules::specs::Tachometer::result_taken))]
 pub fn result_taken(
     enabled: bool,

@@ -29,7 +29,8 @@ fn target_written(channel: Channel, word: u16, register: WordRegister) -> Channe
     }
 }
 
-// Alike `own_written` of write but for what is written: one function for both would be handed that as a closure, and be no shorter.
+// Alike `own_written` of write, `with_result` of tachometer and `with_pulse` of pulse but for what is changed of the channel: one function
+// for all would be handed that as a closure, and each of the four would be no shorter.
 fn own_word_written(state: State, word: u16, register: WordRegister, i: ChannelIndex) -> State
     ensures { result ≡ own_word_written state word register i }
 {
