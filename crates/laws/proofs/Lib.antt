@@ -1,6 +1,7 @@
 -- Laws about the definitions of the rules, which the proofs of the calls cite.
 pub mod Types
 pub mod Each
+pub mod Loops
 pub mod Faults
 pub mod Valid
 pub mod Kept
