@@ -3,72 +3,57 @@ ghost use Rattle.console_text.specs.Frame.{Frame};
 
 use console_commands::Reason;
 use console_form::{put_form, put_text};
-use console_table::{LARGEST, put_usage};
+use console_table::put_usage;
+use lent::Page;
 
-fn put_word_count(place: usize, line: u32, out: &mut [u8], at: usize) -> usize
-    ensures { Frame 110 at out.old out.new result }
+fn put_word_count(page: &mut Page, place: usize, line: u32)
+    ensures { Frame 110 page.old page.new }
 {
-    let expected = put_form(
+    put_form(
+        page,
         b"error: line #: wrong number of words, expected: ",
         &[line],
-        out,
-        at,
     );
-    let usage = put_usage(place, out, expected);
-    put_text(b"\n", out, usage)
+    put_usage(page, place);
+    put_text(page, b"\n");
 }
 
-// How far from 0 the smallest of the signed numbers is, by the largest.
-fn one_further(most: u32) -> u32 {
-    if most < LARGEST { most + 1 } else { LARGEST }
-}
-
-// Why a line, counted from 1, is no call.
-pub fn put_error(reason: Reason, line: u32, out: &mut [u8], at: usize) -> usize
-    ensures { Frame 110 at out.old out.new result }
+// Why a line, counted from 1, is no call. The smallest of the signed numbers is one further from 0 than the largest.
+pub fn put_error(page: &mut Page, reason: Reason, line: u32)
+    ensures { Frame 110 page.old page.new }
 {
     match reason {
-        Reason::UnknownCommand => put_form(b"error: line #: unknown command\n", &[line], out, at),
-        Reason::WordCount(place) => put_word_count(place, line, out, at),
+        Reason::UnknownCommand => put_form(page, b"error: line #: unknown command\n", &[line]),
+        Reason::WordCount(place) => put_word_count(page, place, line),
         Reason::NotNumber(word) => {
             put_form(
+                page,
                 b"error: line #: word # is not a number\n",
                 &[line, word],
-                out,
-                at,
             )
         }
         Reason::TooLarge(word, most) => put_form(
+            page,
             b"error: line #: word # is too large, at most #\n",
             &[line, word, most],
-            out,
-            at,
         ),
         Reason::TooSmall(word, most) => put_form(
+            page,
             b"error: line #: word # is too small, at least -#\n",
-            &[line, word, one_further(most)],
-            out,
-            at,
+            &[line, word, most.saturating_add(1)],
         ),
         Reason::NotBytes(word) => {
-            put_form(
-                b"error: line #: word # is not bytes\n",
-                &[line, word],
-                out,
-                at,
-            )
+            put_form(page, b"error: line #: word # is not bytes\n", &[line, word])
         }
         Reason::NoRecord => put_form(
+            page,
             b"error: line #: word 2 is no call with a record: write, word, read, ticks, tach, pulse or pin\n",
             &[line],
-            out,
-            at,
         ),
         Reason::LineTooLong => put_form(
+            page,
             b"error: line #: line too long, at most 4096 bytes\n",
             &[line],
-            out,
-            at,
         ),
     }
 }

@@ -2,11 +2,13 @@
 ghost use Rattle.console_text.specs.Frame.{Frame};
 
 use console_form::put_text;
+use lent::Page;
 
-pub fn put_help(out: &mut [u8], at: usize) -> usize
-    ensures { Frame 4096 at out.old out.new result }
+pub fn put_help(page: &mut Page)
+    ensures { Frame 4096 page.old page.new }
 {
     put_text(
+        page,
         b"A command, and what it answers. Numbers are decimal, or hexadecimal after 0x.
 A STRING is bytes: hexadecimal digits in pairs, or - for none.
 A signed number is decimal, with - before it where it is below 0. NORMAL QUIET are the galley's
@@ -39,7 +41,5 @@ gload NUMBERS                           ok; the galley is made of these six numb
 gshow                                   the galley for a person to read
 help                                    these lines
 ",
-        out,
-        at,
-    )
+    );
 }
