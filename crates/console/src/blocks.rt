@@ -18,7 +18,7 @@ const BLOCK_BYTES: usize = 65536;
 const LINE_ROOM: usize = 4097;
 
 // What goes from one line to the next: what is in hand, how many lines have ended, the line that has not, and the answers that are
-// not yet written, so many bytes.
+// not yet written, so many bytes: no `Page`, which would be lent from the struct that holds it.
 #[derive(Drop)]
 struct Session {
     hand: Hand,

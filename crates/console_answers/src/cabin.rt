@@ -41,6 +41,7 @@ fn put_reading(page: &mut Page, reading: Reading)
     put_parts(page, reading.shares);
 }
 
+// By the number that is printed, as `cabin_text` has it.
 fn put_answer(page: &mut Page, refusal: u32, reading: Reading)
     ensures put { Puts (cabin_text refusal reading) page.old page.new }
     ensures reading_len_bound { length (cabin_text refusal reading) ≤ cabin_most }

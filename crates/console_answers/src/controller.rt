@@ -11,7 +11,7 @@ use lent::{byte, value};
 use numbers::{numbers_of, state_of};
 use rules::{Call, Refusal, State};
 
-// Tells the refusal of a call, and of one that reads a byte besides.
+// Tells the refusal of a call, and of one that reads a byte besides, by the numbers that are printed (`call_numbers`).
 fn tell_call(hand: Hand, reads: bool, refusal: u8, byte: u8) -> Outcome
     ensures { Tells result (tells hand (call_numbers reads (read_answer refusal byte hand.state))) }
 {

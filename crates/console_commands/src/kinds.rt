@@ -1,4 +1,5 @@
-// A call that a line asks for by its kind and its numbers: the call itself, and its record.
+// A call that a line asks for by its kind and its numbers: the call itself, and its record. Two functions, since a call holds a byte, a word and
+// a flag where a record holds any number.
 ghost use Rattle.std.specs.Prelude.{◌≡◌};
 ghost use Rattle.console_commands.specs.Kinds.{call_by, order_by};
 

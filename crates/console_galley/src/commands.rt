@@ -80,7 +80,7 @@ pub fn sample(hand: Hand, values: &[u32], bytes: &[u8]) -> Outcome
     }
 }
 
-// A part of the table in force, none where it is refused, with the refusal's number.
+// A part of the table in force, none where it is refused, with the refusal's number: both are printed, whichever it is.
 fn part<'a>(galley: Galley, first: u32, end: u32, tables: Tables<'a>) -> (u32, &'a [u8])
     ensures number { result.0 ≡ span_refusal galley first end tables.entry.normal.now tables.entry.quiet.now }
     ensures rows { result.1.now ≡ span_rows galley first end tables.entry.normal.now tables.entry.quiet.now }

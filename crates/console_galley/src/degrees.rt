@@ -9,6 +9,7 @@ use console_text::fraction::put_8ths;
 use galley_rules::Galley;
 use lent::Page;
 
+// By the number that is printed, as `degrees_text` has it.
 fn put_answer(page: &mut Page, refusal: u32, degrees: f64)
     ensures { Puts (degrees_text refusal degrees) page.old page.new }
 {

@@ -1,4 +1,4 @@
-// Numbers, as many as a state has at most.
+// Numbers, as many as a state has at most: an array and no `Vec`, since a command cannot fail and an allocation can.
 ghost use Rattle.std.specs.Prelude.{◌≡◌, ◌≤◌, length, take};
 ghost use Rattle.numbers.specs.Numbers.{number_count};
 

@@ -132,7 +132,8 @@ fn percent_tenths(duty: u16) -> u32 {
     }
 }
 
-// Whether the wait holds a channel back: it has a duty to leave ramp value 0 for, and no override keeps it there.
+// Whether the wait holds a channel back: it has a duty to leave ramp value 0 for, and no override keeps it there. `ticks` asks the same by a
+// law of its own, which the console does without.
 fn held_back(wait: u16, conditions: Conditions, channel: Channel) -> bool {
     let wants = channel.ramp == 0 && 0 < wanted(channel);
     0 < wait && wants && !overridden(conditions, channel)

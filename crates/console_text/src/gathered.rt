@@ -10,6 +10,7 @@ const LONGEST: usize = 4096;
 
 // A line as far as it was read: the bytes kept, which are those from its first word on, as many as there is room for, and
 // how many it has in all, which is counted up to two more than a call can have.
+// Where its bytes stand is the caller's, who reads on into it.
 #[derive(Clone, Copy, Default)]
 pub struct Gathered {
     pub kept: usize,
@@ -17,7 +18,7 @@ pub struct Gathered {
 }
 
 // What a line is that has ended: one that answers nothing, one longer than a call can be, or so many bytes. All three are
-// answers, so none is an `Err` or a `None`.
+// answers, as the definition `ended_of` has them, so none is an `Err` or a `None`.
 #[derive(Clone, Copy, Debug, PartialEq, Eq)]
 pub enum Ended {
     Skipped,

@@ -1,5 +1,6 @@
 // What the codes of the registers stand for. Where there is no limit, time or delay the definitions give 0 and no `None` (`watchdog_limit`,
-// `spin_ticks`, `start_delay`), since the rules compare and count with it.
+// `spin_ticks`, `start_delay`), since the rules compare and count with it. Each is one lookup, so a
+// function over the table would make none of them shorter.
 ghost use Rattle.std.specs.Prelude.{◌≡◌, ◌%◌, ◌^◌, ◌≤◌};
 ghost use Rattle.rules.specs.Time.{watchdog_limit, spin_ticks, start_delay, ends_early, rate_period};
 ghost use Rattle.rules.specs.Tachometer.{queue_length};

@@ -23,7 +23,7 @@ fn some_fault(channels: [Channel; 6]) -> bool
     channels.iter().any(|channel| channel.fault)
 }
 
-// What the overrides of all channels depend on: worked out once a call.
+// What the overrides of all channels depend on, apart from the channel, which goes beside it from function to function: worked out once a call.
 #[tactic(auto, unfolding(rules::specs::Duty::conditions_of))]
 pub fn conditions(state: State) -> Conditions
     ensures { result ≡ conditions_of state }

@@ -39,7 +39,8 @@ fn drive(mut state: State, duty: u16) -> State
     state
 }
 
-// Takes a sample: the row follows it, ALERT and SHDN are told, and the controller's targets become the row's duty.
+// Takes a sample: the row follows it, ALERT and SHDN are told, and the controller's targets become the row's duty. Its callers lend two
+// slices (docs/GALLEY.md), so `Tables` is made here.
 #[tactic(auto, unfolding(galley_rules::specs::Sample::sample_of, galley_rules::specs::Sample::sample_refusal))]
 pub fn sample(
     galley: Galley,

@@ -13,7 +13,7 @@ pub struct Page<'a> {
 }
 
 impl<'a> Page<'a> {
-    // Puts bytes, as many as there is room for.
+    // Puts bytes, as many as there is room for. One by one: a copy of what fits would need to know before how much that is.
     pub fn put(&mut self, text: &[u8])
         ensures { Puts text.now self.old self.new }
     {
@@ -49,6 +49,7 @@ pub fn value(values: &[u32], i: usize) -> u32
     values.get(i).copied().unwrap_or(0)
 }
 
+// Two functions and no type parameter, whose bound would have to say how many bits are kept.
 pub fn byte(values: &[u32], i: usize) -> u8
     ensures { result ≡ byte_of (number values.now i) }
 {

@@ -9,7 +9,7 @@ use device::duty::{conditions, output_duty};
 use device::valid::valid;
 use rules::{Reading, Refusal, State};
 
-// A u32 is an f64 without loss, and so is its quotient by a power of two.
+// A u32 is an f64 without loss, and so is its quotient by a power of two. The galley's eighths are of another type and definition (`over8`).
 fn over_512(n: u32) -> f64
     ensures { result ≡ over512 n }
 {

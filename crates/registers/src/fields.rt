@@ -1,4 +1,5 @@
-// The fields of the registers, each decoded from the byte that its register reads.
+// The fields of the registers, each decoded from the byte that its register reads. A function a field, as the definitions name them: one over
+// shift and width would be called with numbers where these have names.
 ghost use Rattle.std.specs.Prelude.{◌≡◌};
 ghost use Rattle.rules.specs.Registers.{standby, watchdog_code, spin_code, monitor_only, tachometer_enabled, range_code, rate_code, asymmetric, delay_code, failed_fan_option, queue_code};
 

@@ -1,4 +1,4 @@
-// What a register keeps of a written byte, and 00h as it reads.
+// What a register keeps of a written byte, and 00h as it reads. A function a register, as the definitions name them.
 ghost use Rattle.std.specs.Prelude.{◌≡◌};
 ghost use Rattle.rules.specs.Read.{control_byte};
 ghost use Rattle.rules.specs.Registers.{control_kept, dynamics_kept, mask_kept, options_kept, config_refused};

@@ -139,7 +139,7 @@ pub enum Place {
     OwnWord(WordRegister, ChannelIndex, bool),
 }
 
-// What an accepted read gives: the byte, and the state after it.
+// What an accepted read gives: the byte, which is always there, and the state after it.
 #[derive(Clone, Copy)]
 pub struct ByteRead {
     pub byte: u8,

@@ -29,6 +29,7 @@ pub fn start(
     if !((watchdog < 4) & (spinup < 4) & (target < 512) & (modification < 2)) {
         return Err(Refusal::StartOutOfRange);
     }
+    // In range, as was tested, so nothing is lost.
     let start = StartValues {
         watchdog: watchdog as u8,
         spinup: spinup as u8,

@@ -19,7 +19,8 @@ pub enum Group {
     Last(u32),
 }
 
-// Which number of a record is being read, with the one before it where that is kept.
+// Which number of a record is being read, with the one before it where that is kept. A variant a number, as the definition `number_of` goes by
+// them: by kind and place there would be pairs that no record has.
 #[derive(Clone, Copy)]
 pub enum Stage {
     Kind,

@@ -4,7 +4,8 @@ ghost use Rattle.strings.specs.Encode.{order_of};
 
 use rules::Call;
 
-// A record as its kind and its numbers, whatever they are: one that will be refused is written as well.
+// A record as its kind and its numbers, whatever they are: one that will be refused is written as well. `rules::Call` with type parameters for
+// byte, word and level would be spelled out wherever a call is named.
 #[derive(Clone, Copy)]
 pub enum Order {
     // The address and the value.

@@ -85,6 +85,7 @@ pub fn result_taken(
     }
 }
 
+// A channel has the three beside its other fields, for its 16 bytes (docs/DESIGN.md): here they are put in, and below taken out.
 fn with_results(channel: Channel, results: Results) -> Channel
     ensures { result ≡ with_results channel results }
 {

@@ -1,5 +1,6 @@
 // Duties and counts as the words that the registers show, and back. Every function takes any number: a duty counts
-// modulo 512, a count modulo 2,048, and the bits of a word that show no number are dropped.
+// modulo 512, a count modulo 2,048, and the bits of a word that show no number are dropped. A duty and a count differ in a shift alone; a function over it
+// would take a number where these have a name, as the definitions have.
 #![tactic(auto)]
 
 ghost use Rattle.std.specs.Prelude.{◌≡◌};
