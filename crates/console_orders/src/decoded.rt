@@ -60,7 +60,8 @@ fn put_stop(page: &mut Page, index: u32, refusal: StringRefusal)
     put_reason(page, refusal);
 }
 
-// The records of a string, a line each, and a line that says where they end. A record has at least two bytes.
+// The records of a string, a line each, and a line that says where they end. A record has at least two bytes, and the index goes on where it
+// ended, so it is no loop's.
 fn put_records(page: &mut Page, string: &[u8])
     ensures { Frame (21 * length string.now + 71) page.old page.new }
 {

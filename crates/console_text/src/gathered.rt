@@ -38,7 +38,7 @@ fn is_skipped(line: &[u8]) -> bool
 
 impl Gathered {
     // Adds a byte to a line. Blanks before the first word are counted and not kept, so that a line of them stays empty and a
-    // comment shows its first byte, however long it is.
+    // comment shows its first byte, however long it is. By an index, since which bytes are kept is known only as they come.
     fn keep(&mut self, byte: u8, line: &mut [u8])
         ensures { self.new.kept ≤ max self.old.kept (length line.old) }
     {

@@ -50,7 +50,8 @@ fn begun(state: State) -> RunAnswer
     }
 }
 
-// Takes the records of a string, as many as allowed, for a run that has taken none and has room for the answers.
+// Takes the records of a string, as many as allowed, for a run that has taken none and has room for the answers. The index goes on where a
+// record ended, and an answer stands where the last one ended, so neither is the loop's.
 fn take_records(
     run: &mut RunAnswer,
     string: &[u8],
