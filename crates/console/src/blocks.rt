@@ -1,6 +1,7 @@
 // The input, block by block, and the output, gathered until the program waits for more input.
 ghost use Rattle.std.specs.Prelude.{◌≡◌, ◌+◌, ◌≤◌, IfOk};
 ghost use Rattle.console.specs.Answers.{longest_answer};
+ghost use Rattle.console.specs.declared.blocks.TheConstants.{LINE_ROOM, BLOCK_BYTES};
 
 use crate::lines::answer;
 use console_outcome::hand::Hand;
@@ -27,8 +28,8 @@ struct Session {
     gathered: Gathered,
     out: [u8; BLOCK_BYTES],
     at: usize,
-    ghost line_within: { gathered.kept ≤ 4097 },
-    ghost answers_within: { at ≤ 65536 },
+    ghost line_within: { gathered.kept ≤ LINE_ROOM },
+    ghost answers_within: { at ≤ BLOCK_BYTES },
 }
 
 impl Session {
@@ -56,7 +57,7 @@ impl Session {
 
     // Writes the answers so far where there may be no room for another.
     fn make_room<W: Write>(&mut self, output: &mut W) -> io::Result<()>
-        ensures { IfOk result (λ _. self.new.at + longest_answer ≤ 65536) }
+        ensures { IfOk result (λ _. self.new.at + longest_answer ≤ BLOCK_BYTES) }
     {
         if BLOCK_BYTES - LONGEST_ANSWER < self.at {
             self.flush(output)?;

@@ -1,6 +1,6 @@
 // A line's command, and the function that answers it.
 ghost use Rattle.std.specs.Prelude.{◌+◌, ◌≤◌, ◌≡◌, length};
-ghost use Rattle.console_outcome.specs.Outcome.{told_of, fresh, line_most};
+ghost use Rattle.console_outcome.specs.Outcome.{told_of, fresh};
 ghost use Rattle.console.specs.Answers.{longest_answer, made_told, record_told, told_by, Prints, Shows, AnswersRequest, Stays, AnswersAs, AnswersLine};
 
 use crate::{errors, help};
@@ -30,20 +30,13 @@ fn fresh_buffer() -> [u8; BUFFER_BYTES]
 
 // Prints an outcome whose bytes stand in a buffer, and gives what is in hand then.
 fn printed(page: &mut Page, outcome: Outcome, buffer: &[u8]) -> Hand
+    requires { length buffer.now ≤ BUFFER_BYTES }
     ensures prints { Prints (told_of outcome buffer.now) page.old page.new result }
-    ensures at_bound { page.new.at ≤ page.old.at + line_most (length buffer.now) }
+    ensures at_bound { page.new.at ≤ page.old.at + longest_answer }
 {
     let hand = outcome.hand;
     print::put_outcome(page, outcome, buffer);
     hand
-}
-
-// The same with a whole buffer.
-fn printed_with(page: &mut Page, outcome: Outcome, buffer: &[u8; BUFFER_BYTES]) -> Hand
-    ensures prints { Prints (told_of outcome buffer.now) page.old page.new result }
-    ensures at_bound { page.new.at ≤ page.old.at + longest_answer }
-{
-    printed(page, outcome, buffer)
 }
 
 impl<'a> Given<'a> {
@@ -130,7 +123,7 @@ impl<'a> Given<'a> {
         );
         let mut buffer = fresh_buffer();
         let outcome = packets::encode_record(self.hand, order, &mut buffer);
-        printed_with(page, outcome, &buffer)
+        printed(page, outcome, &buffer)
     }
 
     fn answer_verb(self, page: &mut Page, verb: Verb) -> Hand
@@ -139,7 +132,7 @@ impl<'a> Given<'a> {
     {
         let mut buffer = fresh_buffer();
         let outcome = self.outcome_of(verb, &mut buffer);
-        printed_with(page, outcome, &buffer)
+        printed(page, outcome, &buffer)
     }
 
     fn answer_request(self, page: &mut Page, request: Request) -> Hand
