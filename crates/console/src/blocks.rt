@@ -21,7 +21,7 @@ const LINE_ROOM: usize = 4097;
 // What goes from one line to the next: what is in hand, how many lines have ended, the line that has not, and the answers that are
 // not yet written, so many bytes: no `Page`, which would be lent from the struct that holds it.
 #[derive(Drop)]
-struct Session {
+struct Progress {
     hand: Hand,
     lines: u32,
     line: [u8; LINE_ROOM],
@@ -32,11 +32,11 @@ struct Session {
     ghost answers_within: { at ≤ BLOCK_BYTES },
 }
 
-impl Session {
+impl Progress {
     // "Before the first `start` or `load` the state in hand is the one that a refused start gives"; "before the first `gfresh` or
     // `gload` it is the one that a refused fresh call gives": all of it is 0.
-    fn begin() -> Session {
-        Session {
+    fn begin() -> Progress {
+        Progress {
             hand: Hand::default(),
             lines: 0,
             line: [0; LINE_ROOM],
@@ -106,15 +106,15 @@ impl Session {
 // read, so that another program can wait for it.
 pub fn run<R: Read, W: Write>(input: &mut R, output: &mut W) -> io::Result<()> {
     let mut block = [0; BLOCK_BYTES];
-    let mut session = Session::begin();
+    let mut progress = Progress::begin();
     // A proved loop has to end, and nothing says that the input does: this is more reads than any run makes.
     for _ in 0..u64::MAX {
         let count = input.read(&mut block)?;
         if count == 0 {
             break;
         }
-        session.take_block(output, &block[..count])?;
-        session.flush(output)?;
+        progress.take_block(output, &block[..count])?;
+        progress.flush(output)?;
     }
-    session.finish(output)
+    progress.finish(output)
 }
