@@ -35,7 +35,9 @@ struct Progress {
 impl Progress {
     // "Before the first `start` or `load` the state in hand is the one that a refused start gives"; "before the first `gfresh` or
     // `gload` it is the one that a refused fresh call gives": all of it is 0.
-    fn begin() -> Progress {
+    fn begin() -> Progress
+        ensures { (result.gathered.kept ≡ 0) × (result.gathered.total ≡ 0) × (result.at ≡ 0) }
+    {
         Progress {
             hand: Hand::default(),
             lines: 0,
@@ -48,7 +50,8 @@ impl Progress {
 
     // Writes the answers so far.
     fn flush<W: Write>(&mut self, output: &mut W) -> io::Result<()>
-        ensures { IfOk result (λ _. self.new.at ≡ 0) }
+        ensures written { IfOk result (λ _. self.new.at ≡ 0) }
+        ensures others { (self.new.hand ≡ self.old.hand) × (self.new.lines ≡ self.old.lines) × (self.new.line ≡ self.old.line) × (self.new.gathered ≡ self.old.gathered) × (self.new.out ≡ self.old.out) }
     {
         output.write_all(&self.out[..self.at])?;
         self.at = 0;
@@ -57,7 +60,8 @@ impl Progress {
 
     // Writes the answers so far where there may be no room for another.
     fn make_room<W: Write>(&mut self, output: &mut W) -> io::Result<()>
-        ensures { IfOk result (λ _. self.new.at + longest_answer ≤ BLOCK_BYTES) }
+        ensures room { IfOk result (λ _. self.new.at + longest_answer ≤ BLOCK_BYTES) }
+        ensures others { (self.new.hand ≡ self.old.hand) × (self.new.lines ≡ self.old.lines) × (self.new.line ≡ self.old.line) × (self.new.gathered ≡ self.old.gathered) × (self.new.out ≡ self.old.out) }
     {
         if BLOCK_BYTES - LONGEST_ANSWER < self.at {
             self.flush(output)?;

@@ -80,8 +80,10 @@ impl<'a> Reading<'a> {
     {
         let mut rest = self.words;
         for (i, value) in values.iter_mut().enumerate() {
-            let (Some(parameter), Some((word, after))) = (self.parameters.get(i), split_word(rest))
-            else {
+            let Some(parameter) = self.parameters.get(i) else {
+                break;
+            };
+            let Some((word, after)) = split_word(rest) else {
                 break;
             };
             *value = taken(word, parameter, self.first + i as u32)?;

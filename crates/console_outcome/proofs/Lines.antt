@@ -75,8 +75,9 @@ pub plain-length : (signed : Bool) (numbers : List ℕ) → length (line_by sign
 unfolding line_by
 plain-length signed numbers = rw length-append (omega (arith, numbers-length signed false numbers, end-length (begun numbers) None []))
 
-pub line-length : (outcome : Outcome) (buffer : List ℕ) → length outcome.numbers ≤ number_count → length (line_of (told_of outcome buffer)) ≤ line_most (length buffer)
+pub line-length : (outcome : Outcome) (buffer : List ℕ) → length (told_of outcome buffer).numbers ≤ number_count → length (line_of (told_of outcome buffer)) ≤ line_most (length buffer)
 unfolding line_by
 line-length outcome buffer h =
+    let numbers = (told_of outcome buffer).numbers in
     rw length-append
-    (omega (arith, numbers-length outcome.signed false outcome.numbers, end-length (begun outcome.numbers) outcome.bytes buffer))
+    (omega (arith, numbers-length outcome.signed false numbers, end-length (begun numbers) outcome.bytes buffer))

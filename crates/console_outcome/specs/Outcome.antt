@@ -52,7 +52,7 @@ part_of None buffer = None
 part_of (Some count) buffer = Some (take count buffer)
 
 abbrev pub told_of : Outcome → List ℕ → Told
-told_of outcome buffer = told outcome.hand outcome.signed outcome.numbers (part_of outcome.bytes buffer)
+told_of outcome buffer = told outcome.hand outcome.signed (take outcome.numbers.count outcome.numbers.list) (part_of outcome.bytes buffer)
 
 -- bytes that are lent
 abbrev pub lent_bytes : Option (Bor (List ℕ)) → Option (List ℕ)

@@ -3,29 +3,19 @@ ghost use Rattle.std.specs.Prelude.{◌≡◌, ◌≤◌, length, take};
 ghost use Rattle.numbers.specs.Numbers.{number_count};
 
 use numbers::STATE_NUMBERS;
-use std::marker::Model;
 
-#[derive(Drop)]
+// No `impl Model`, which would see the numbers alone: what forgets the places after them cannot be `Copy`.
+#[derive(Clone, Copy)]
 pub struct NumberList {
     list: [u32; STATE_NUMBERS],
     count: usize,
-}
-
-impl Model for NumberList {
-    ghost use Rattle.std.specs.Prelude.{ℕ, ◌≤◌, List, take};
-    ghost use Rattle.numbers.specs.Numbers.{number_count};
-
-    ghost Value = { List ℕ };
-
-    ghost view = { λ numbers. take numbers.count numbers.list };
-
-    ghost invariant = { λ numbers. numbers.count ≤ number_count };
+    ghost few: { count ≤ number_count },
 }
 
 impl NumberList {
     // The first of them, where there are more.
     pub fn first_of(numbers: &[u32]) -> NumberList
-        ensures { result ≡ take number_count numbers.now }
+        ensures { take result.count result.list ≡ take number_count numbers.now }
     {
         let count = numbers.len().min(STATE_NUMBERS);
         let mut list = [0; STATE_NUMBERS];
@@ -34,7 +24,7 @@ impl NumberList {
     }
 
     pub fn as_slice(&self) -> &[u32]
-        ensures same { result.now ≡ self.now }
+        ensures same { result.now ≡ take self.now.count self.now.list }
         ensures few { length result.now ≤ number_count }
     {
         &self.list[..self.count]

@@ -12,7 +12,7 @@ pub const BUFFER_BYTES: usize = 2048;
 pub const UNTOUCHED: u8 = 0xA5;
 
 // The numbers are printed, as signed ones or not, and then the bytes, if any: so many from the front of the buffer.
-#[derive(Drop)]
+#[derive(Clone, Copy)]
 pub struct Outcome {
     pub hand: Hand,
     pub numbers: NumberList,

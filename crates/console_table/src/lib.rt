@@ -140,7 +140,8 @@ const STORED: Parameter = Parameter::Signed(32767);
 
 const BYTES: Parameter = Parameter::Bytes;
 
-const ROWS: usize = 26;
+// How many commands there are.
+pub const ROWS: usize = 26;
 
 static COMMANDS: [Command; ROWS] = [
     Command {

@@ -1,7 +1,7 @@
 -- Digits read one by one, with a number that has passed the limit held at it.
 use Prim.Native.Nat.{ℕ, ◌+◌, ◌*◌, ◌≤◌, ◌<◌, min}
 use mathlib.Core.Path.{◌≡◌, refl, sym, ap, ◌∙◌}
-use mathlib.Core.Bool.{true, false, false≢true}
+use mathlib.Core.Bool.{true, false, and-false, false≢true}
 use mathlib.Core.List.{List, [], ◌∷◌}
 use native.Mathlib.Nat.{le_refl, le_trans, le-add_right, le-mul_of_pos_right}
 use native.Mathlib.Numerals.{add-one}
@@ -9,7 +9,7 @@ use native.Mathlib.Decide.{dec_lt}
 use native.Mathlib.Omega.{arith}
 use lib.ListN.{length, get_or, drop, drop_of_length-le}
 use lib.Seq.{drop-cons}
-use lib.Dec.{ltb}
+use lib.Dec.{ltb, eqb}
 use borrow.Author.Tests.{lt-ltb, le-ltb, eqb-true, ltb-false}
 use Rattle.std.specs.Prelude.{◌==◌, Option, Some, None, SomeIff, Result, Ok, Err, OkIff, MatchResult, IsErrAnd}
 use Rattle.std.specs.Char.{digit_value}
@@ -17,7 +17,7 @@ use Rattle.std.proofs.lemmas.Bool.Decides.{nat_tests}
 use Rattle.rules.proofs.Tests.{by-test}
 use Rattle.console_text.specs.declared.number.NumberError.{NumberError}
 use Rattle.console_text.specs.declared.number.NumberError.TheVariants.{TooLarge, NotNumber}
-use Rattle.console_text.specs.Number.{limit, digit_of, digit_in, are_digits, spelled_after, limited, number_after, in_base}
+use Rattle.console_text.specs.Number.{limit, prefixed, digit_of, digit_in, are_digits, spelled_after, limited, number_after, in_base}
 
 -- ---- a digit, as the library reads one
 digit-value : (byte : ℕ) → digit_value byte < 16 → digit_of byte ≡ digit_value byte
@@ -109,3 +109,17 @@ unfolding limited
 limited-told n (Ok x) r told e why = rw (lt-ltb n limit told.0) (ap Ok (sym told.1) ∙ sym e)
 limited-told n (Err x) (Ok y) told e why = elim e [ ]
 limited-told n (Err x) (Err y) told e why = rw (le-ltb n limit (omega arith)) (ap Err (sym (why x y e)))
+
+-- a prefix has two bytes
+pub too_short : (text : List ℕ) → length text < 2 → false ≡ prefixed text
+unfolding prefixed
+too_short [] h = refl
+too_short (byte ∷ []) h = sym (and-false (eqb byte 48))
+too_short (byte ∷ next ∷ text) h = absurd (omega arith)
+
+pub prefix-long : (text : List ℕ) → prefixed text ≡ true → 2 ≤ length text
+prefix-long text e =
+    elim (dec_lt (length text) 2) [
+      | yes l ↦ absurd (false≢true (too_short text l ∙ e))
+      | no g ↦ omega arith
+    ]

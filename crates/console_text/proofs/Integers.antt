@@ -1,6 +1,6 @@
 -- Signed numbers: what the machine reads back from 32 bits, and the way there and back between a number and its bits.
 use Prim.Native.Nat.{ℕ, suc, ◌-◌, ◌%◌, ◌<◌}
-use mathlib.Core.Path.{◌≡◌, refl, ap}
+use mathlib.Core.Path.{◌≡◌, refl, ap, ◌∙◌}
 use mathlib.Core.List.{List, ◌∷◌, ◌++◌}
 use native.Mathlib.Decide.{dec_lt}
 use native.Mathlib.Omega.{arith}
@@ -82,3 +82,10 @@ short-fits n =
 
 pub short-read : {z : ℤ} (n : ℕ) → z ≡ short_of n → to_z w16 (of_z w16 z) ≡ short_of n
 short-read n e = rw e (to_z-of_z w16 (short_of n) (short-fits n))
+
+-- 16 bits fit 32
+pub widened : (z : ℤ) → SFits w16 z → SFits w32 (to_z w16 (of_z w16 z))
+widened z f = rw (to_z-of_z w16 z f) (record { sfits = omega (arith, f.sfits) })
+
+pub widened-read : (z : ℤ) → SFits w16 z → to_z w32 (of_z w32 (to_z w16 (of_z w16 z))) ≡ z
+widened-read z f = to_z-of_z w32 (to_z w16 (of_z w16 z)) (widened z f) ∙ to_z-of_z w16 z f

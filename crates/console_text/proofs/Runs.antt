@@ -6,12 +6,12 @@ use mathlib.Core.List.{List, [], ◌∷◌}
 use native.Mathlib.Omega.{arith}
 use lib.ListN.{length, get_or, take, drop, length-drop, drop_of_length-le}
 use lib.Seq.{drop-cons, drop-drop}
-use lib.Dec.{ltb}
+use lib.Dec.{ltb, eqb}
 use borrow.Author.Tests.{lt-ltb, le-ltb}
 use native.Mathlib.Decide.{dec_lt}
 use Rattle.std.specs.Bool.{then_some}
 use Rattle.rules.proofs.Tests.{by-test}
-use Rattle.console_text.specs.Words.{is_blank, words_of, run_of, lengthened, Finds}
+use Rattle.console_text.specs.Words.{counted, is_blank, words_of, run_of, lengthened, Finds}
 use Rattle.std.specs.Prelude.{Some, None}
 
 pub run_more : (blank : Bool) (byte : ℕ) (line : List ℕ) → beq (is_blank byte) blank ≡ true → run_of blank (byte ∷ line) ≡ suc (run_of blank line)
@@ -127,3 +127,8 @@ module _ (line : List ℕ) (from begin : ℕ) (skipped : begin ≡ from + run_of
             let none = rw (drop_of_length-le line {i = begin} (omega arith), run_none false) at e in
             rw (le-ltb begin end (omega arith)) (finds-nothing (omega arith))
       ]
+
+-- no more of a line counts than there is
+pub counted-within : (line : List ℕ) → counted line ≤ length line
+unfolding counted
+counted-within line = by-test (eqb (get_or line (length line - 1) 0) 13) (λ t. rw t (omega arith)) (λ f. rw f (omega arith))

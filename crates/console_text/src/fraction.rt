@@ -15,7 +15,7 @@ pub fn parts(x: f64) -> u32
 {
     let mut n = 0;
     for bit in (0..32u32).rev() {
-        let more = n + 2u32.pow(bit);
+        let more = n + (1u32 << bit);
         if f64::from(more) / 512.0 <= x {
             n = more;
         }

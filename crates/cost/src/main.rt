@@ -2,9 +2,10 @@
 // call.
 #![tactic(auto)]
 
-use counting::{Given, letters, sum_of};
+use counting::{Counted, Given, sum_of};
 use rules::{Channel, Refusal, State};
 use std::io;
+use std::io::Read;
 use ticks::pass_ticks;
 
 const CALLS: u32 = 10000;
@@ -105,11 +106,25 @@ fn call(state: State, letter: u8) -> Given {
     }
 }
 
+#[derive(Clone, Copy)]
+struct Lettered {
+    letter: u8,
+}
+
+impl Counted for Lettered {
+    fn call(&self, state: State) -> Given {
+        call(state, self.letter)
+    }
+}
+
 fn main(rt: HostRuntime) -> io::Result<()> {
-    let [kind, letter]: [u8; 2] = letters(&rt);
+    // A letter that the input lacks stays 0.
+    let mut letters = [0; 2];
+    let _ = rt.stdin().read_exact(&mut letters);
+    let [kind, letter] = letters;
     let state = state_of(kind).unwrap_or_default();
     // One call first: with two places that call it, `call` stays a function that can be counted in.
     let first = call(state, letter);
-    let sum = sum_of(state, CALLS, |state| call(state, letter));
+    let sum = sum_of(state, CALLS, &Lettered { letter });
     println!(rt; "{}", sum.wrapping_add(u64::from(first.number)))
 }

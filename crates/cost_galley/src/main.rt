@@ -3,10 +3,11 @@
 // out otherwise.
 #![tactic(auto)]
 
-use counting::{Given, letters, sum_of};
+use counting::{Counted, Given, sum_of};
 use galley_rules::{Galley, TABLE_BYTES};
 use rules::State;
 use std::io;
+use std::io::Read;
 
 const CALLS: u32 = 10000;
 
@@ -48,13 +49,34 @@ fn call(galley: Galley, state: State, letter: u8, table: &[u8]) -> Given {
     }
 }
 
+#[derive(Clone, Copy)]
+struct Lettered<'a> {
+    galley: Galley,
+    letter: u8,
+    table: &'a [u8],
+}
+
+impl<'a> Counted for Lettered<'a> {
+    fn call(&self, state: State) -> Given {
+        call(self.galley, state, self.letter, self.table)
+    }
+}
+
 fn main(rt: HostRuntime) -> io::Result<()> {
-    let [letter, byte]: [u8; 2] = letters(&rt);
+    // A letter that the input lacks stays 0.
+    let mut letters = [0; 2];
+    let _ = rt.stdin().read_exact(&mut letters);
+    let [letter, byte] = letters;
     let table = [byte; TABLE_BYTES];
     let galley = galley::fresh(640, 720, false, false).unwrap_or_default();
     let state = start::start(1, 0, TARGET, 0x11, 0).unwrap_or_default();
     // One call first: with two places that call it, `call` stays a function that can be counted in.
     let first = call(galley, state, letter, &table);
-    let sum = sum_of(state, CALLS, |state| call(galley, state, letter, &table));
+    let lettered = Lettered {
+        galley,
+        letter,
+        table: &table,
+    };
+    let sum = sum_of(state, CALLS, &lettered);
     println!(rt; "{}", sum.wrapping_add(u64::from(first.number)))
 }

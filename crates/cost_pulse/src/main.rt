@@ -2,15 +2,21 @@
 // `cost`, so that no call there is laid out otherwise.
 #![tactic(auto)]
 
-use counting::{Given, letters, sum_of};
+use counting::{Counted, Given, sum_of};
 use rules::{Refusal, State};
 use std::io;
+use std::io::Read;
 use ticks::pass_ticks;
 
 const CALLS: u32 = 10000;
 
-fn call(state: State) -> Given {
-    Given::of(state, pulse::take_pulse(state, 6))
+#[derive(Clone, Copy)]
+struct Pulse;
+
+impl Counted for Pulse {
+    fn call(&self, state: State) -> Given {
+        Given::of(state, pulse::take_pulse(state, 6))
+    }
 }
 
 // Six spin-ups that run: with no start delay all begin in one tick.
@@ -25,12 +31,15 @@ fn state_of(letter: u8) -> Result<State, Refusal> {
     match letter {
         b'a' => running(0),
         b'b' => running(1),
-        _ => Ok(call(running(1)?).state),
+        _ => Ok(Pulse.call(running(1)?).state),
     }
 }
 
 fn main(rt: HostRuntime) -> io::Result<()> {
-    let [letter]: [u8; 1] = letters(&rt);
+    // A letter that the input lacks stays 0.
+    let mut letters = [0; 1];
+    let _ = rt.stdin().read_exact(&mut letters);
+    let [letter] = letters;
     let state = state_of(letter).unwrap_or_default();
-    println!(rt; "{}", sum_of(state, CALLS, call))
+    println!(rt; "{}", sum_of(state, CALLS, &Pulse))
 }

@@ -2,9 +2,10 @@
 // runs it. A letter of input chooses which. It stands apart from `cost`, so that no call there is made from two places.
 #![tactic(auto)]
 
-use counting::{Given, letters, sum_of};
+use counting::{Counted, Given, sum_of};
 use rules::{Call, State};
 use std::io;
+use std::io::Read;
 use strings::Order;
 
 const TIMES: u32 = 1000;
@@ -70,13 +71,32 @@ fn call(state: State, letter: u8, string: &[u8]) -> Given {
     }
 }
 
+#[derive(Clone, Copy)]
+struct Lettered<'a> {
+    letter: u8,
+    string: &'a [u8],
+}
+
+impl<'a> Counted for Lettered<'a> {
+    fn call(&self, state: State) -> Given {
+        call(state, self.letter, self.string)
+    }
+}
+
 fn main(rt: HostRuntime) -> io::Result<()> {
-    let [letter]: [u8; 1] = letters(&rt);
+    // A letter that the input lacks stays 0.
+    let mut letters = [0; 1];
+    let _ = rt.stdin().read_exact(&mut letters);
+    let [letter] = letters;
     let mut string = [0; 192];
     put_64(&mut string);
     let state = start::start(0, 0, 511, 0x11, 0).unwrap_or_default();
     // Once first: with two places that call it, `call` stays a function that can be counted in.
     let first = call(state, letter, &string);
-    let sum = sum_of(state, TIMES, |state| call(state, letter, &string));
+    let lettered = Lettered {
+        letter,
+        string: &string,
+    };
+    let sum = sum_of(state, TIMES, &lettered);
     println!(rt; "{}", sum.wrapping_add(u64::from(first.number)))
 }

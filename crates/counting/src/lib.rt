@@ -1,11 +1,10 @@
-// What the counting programs share: the letters of their input, and one call made many times.
+// What the counting programs share: what a letter of their input spells, and one call made many times.
 #![tactic(auto)]
 
 ghost use Rattle.std.specs.Prelude.{◌≡◌, ◌%◌};
 ghost use Rattle.rules.specs.Calls.{answer_by};
 
 use rules::{Refusal, State};
-use std::io::Read;
 
 // All that a call gives: nothing of it can be left out as unused.
 #[derive(Clone, Copy)]
@@ -32,13 +31,6 @@ impl Given {
     }
 }
 
-// The first letters of the input. One that it lacks stays 0.
-pub fn letters<const N: usize>(rt: &HostRuntime) -> [u8; N] {
-    let mut letters = [0; N];
-    let _ = rt.stdin().read_exact(&mut letters);
-    letters
-}
-
 // A number below 64, as a letter spells it.
 pub fn six_bits(letter: u8) -> u32
     ensures { result ≡ letter % 64 }
@@ -46,15 +38,18 @@ pub fn six_bits(letter: u8) -> u32
     u32::from(letter % 64)
 }
 
+// A call that is made many times. A trait and no closure: who is handed a closure has to ask that it may be called.
+pub trait Counted {
+    fn call(&self, state: State) -> Given;
+}
+
 // Each call from another clock, and a sum of what they give.
-pub fn sum_of<F: Fn(State) -> Given>(state: State, times: u32, call: F) -> u64
-    requires { F.IsAlwaysCallable call }
-{
+pub fn sum_of<C: Counted>(state: State, times: u32, counted: &C) -> u64 {
     let mut next = state;
     let mut sum: u64 = 0;
     for clock in 0..times {
         next.timer.clock = clock;
-        let given = call(next);
+        let given = counted.call(next);
         sum = sum.wrapping_add(u64::from(given.state.timer.clock));
         sum = sum.wrapping_add(u64::from(given.number));
     }

@@ -3,12 +3,14 @@
 // what else is answered is printed it leaves nothing out but refusals.
 #![tactic(auto)]
 
-use counting::{letters, six_bits};
+use counting::six_bits;
 use galley_rules::{Sample, TABLE_BYTES};
 use lent::front;
-use records::reader::next_at;
+use records::reader::Reader;
 use rules::{ByteRead, Call, Made, Reading, Refusal, Speed, State};
-use strings::{Found, Order, StringRefusal};
+use std::io::Read;
+use strings::{Found, Order, RunRefusal, StringRefusal};
+use turns::Period;
 
 const DIGITS: [u8; 16] = *b"0123456789ABCDEF";
 
@@ -19,10 +21,10 @@ fn digit(number: u64) -> u8 {
 // A line with a number's four lowest digits in hex. They are made by hand since the standard library's printing of a number divides, which
 // cost/divides would find. A write that fails is let go: the number of its error, which `main` would hand on, would be divided too.
 fn tell(rt: &impl Print, what: &[u8], number: u64) {
-    let digits = [number >> 12, number >> 8, number >> 4, number].map(digit);
+    let [first, second, third, fourth] =
+        [number >> 12, number >> 8, number >> 4, number].map(digit);
     let _ = rt.write_all(what);
-    let _ = rt.write_all(&digits);
-    let _ = rt.write_all(b"\n");
+    let _ = rt.write_all(&[first, second, third, fourth, b'\n']);
 }
 
 // The calls that change the state, each from the one before. That none was refused is told by the sum in the end.
@@ -92,6 +94,26 @@ fn asked(rt: &impl Print, state: State, pulses: u32) {
     tell(rt, b"speed ", turns(speed));
 }
 
+// A number above the four digits that are told: what is printed stays as it is without it.
+fn unseen(number: u8) -> u64 {
+    u64::from(number) << 16
+}
+
+fn stopped_by(outcome: Result<(), RunRefusal>) -> u8 {
+    match outcome {
+        Ok(()) => 0,
+        Err(refusal) => refusal.number(),
+    }
+}
+
+// The power of two of a period, 0 where there is none.
+fn power_of(shift: u8) -> u8 {
+    match Period::new(shift) {
+        Some(period) => period.get(),
+        None => 0,
+    }
+}
+
 // Where the record ends, 0 where there is none.
 fn end_of(found: Result<Option<Found>, StringRefusal>) -> u64 {
     match found {
@@ -108,10 +130,14 @@ fn ran(rt: &impl Print, state: State, letters: [u8; 18]) -> State {
     let read = Call::Read(six_bits(letters[11]));
     let end = encode::encode(Order::from(read), &mut string, first);
     let string = front(&string, end);
-    tell(rt, b"record to ", end_of(next_at(string, first)));
+    tell(rt, b"record to ", end_of(Reader::open(string, 0).moved(first).next()));
     let mut answers = [0; 5];
     let run = orders::run(state, string, six_bits(letters[12]), &mut answers);
-    tell(rt, b"taken ", u64::from(run.taken));
+    tell(
+        rt,
+        b"taken ",
+        u64::from(run.taken) | unseen(stopped_by(run.outcome)),
+    );
     let answered = if orders::is_read(read) { answers[0] } else { 0 };
     tell(rt, b"answered ", u64::from(answered));
     run.state
@@ -143,11 +169,10 @@ fn served(rt: &impl Print, state: State, letters: [u8; 18]) -> State {
     );
     let first = six_bits(letters[11]);
     let end = six_bits(letters[9]);
-    let rows = match galley::rows(sample.galley, first, end, &table, &table) {
-        Ok(rows) => rows.len() as u64,
-        Err(refusal) => u64::from(refusal.number()) << 8,
-    };
-    tell(rt, b"refused, rows ", rows);
+    let refused = galley::span_refusal(sample.galley, first, end, &table, &table);
+    let rows = galley::span_rows(sample.galley, first, end, &table, &table);
+    let told = u64::from(refused) << 8 | rows.len() as u64;
+    tell(rt, b"refused, rows ", told);
     let degrees = galley::degrees(sample.galley).unwrap_or(0.0);
     let past = at_least(degrees, 15.75) << 4 | at_least(degrees, 16.0);
     tell(rt, b"15.75 degrees, 16 degrees ", past);
@@ -163,11 +188,17 @@ fn sum_of(state: State) -> u64 {
 }
 
 fn main(rt: HostRuntime) {
-    let letters: [u8; 18] = letters(&rt);
+    // A letter that the input lacks stays 0.
+    let mut letters = [0; 18];
+    let _ = rt.stdin().read_exact(&mut letters);
     let state = changed(&rt, passed(letters), letters);
     asked(&rt, state, six_bits(letters[12]));
     let limit = numbers::limit(six_bits(letters[13]) as usize);
-    tell(&rt, b"limit ", u64::from(limit));
+    tell(
+        &rt,
+        b"limit ",
+        u64::from(limit) | unseen(power_of(letters[13])),
+    );
     let state = served(&rt, ran(&rt, state, letters), letters);
     tell(&rt, b"sum ", sum_of(state));
 }

@@ -8,5 +8,5 @@ mod thermometer;
 
 pub use beginning::{fresh, zero_galley};
 pub use sampling::sample;
-pub use spans::rows;
+pub use spans::{rows, span_refusal, span_rows};
 pub use thermometer::degrees;

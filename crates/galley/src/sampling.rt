@@ -1,5 +1,6 @@
 // A sample of the temperature, and the target duties that it writes.
-ghost use Rattle.std.specs.Prelude.{◌≡◌, ◌+◌, ◌*◌, ◌<◌};
+ghost use Rattle.std.specs.Prelude.{◌≡◌, ◌+◌, ◌*◌, ◌<◌, true};
+ghost use Rattle.rules.specs.Valid.{valid_of};
 ghost use Rattle.rules.specs.WriteWord.{write_word_of};
 ghost use Rattle.rules.specs.Make.{after_each, targets};
 ghost use Rattle.galley_rules.specs.Sample.{calls_from, sample_of};
@@ -9,23 +10,22 @@ use galley_rows::tables::{Tables, row_duty};
 use galley_rows::temperature::{is_above, row_after, taken};
 use galley_rows::valid::valid;
 use galley_rules::{Galley, GalleyRefusal, Sample};
-use rules::State;
-use write_word::write_word;
+use rules::{ChannelIndex, State, WordRegister};
+use write_word::write_own;
 
-// Writes a word to the target of a channel. Where it is refused the state stays. A function apart: inside `drive` each word takes some
-// 90 instructions more.
-#[inline(never)]
-fn write_target(state: &mut State, i: usize, word: u16)
-    requires { i < 6 }
-    ensures { state.new ≡ (write_word_of state.old (0x40 + 2 * i) word).state }
+// Writes a word to the target of a channel, as the call does at its address: no such write is refused where the state is valid.
+fn write_target(state: State, i: usize, word: u16) -> State
+    requires { (valid_of state ≡ true) × (i < 6) }
+    ensures { result ≡ (write_word_of state (0x40 + 2 * i) word).state }
 {
-    if let Ok(written) = write_word(*state, 0x40 + 2 * i as u32, word) {
-        *state = written;
-    }
+    let channel = ChannelIndex::new(i).unwrap();
+    write_own(state, word, WordRegister::Target, channel)
 }
 
-// Writes a duty to those of the six targets that differ, from channel 1 up, a word each. No write is refused where the state is valid.
+// Writes a duty to those of the six targets that differ, from channel 1 up, a word each. The sample has tested the state, and no write
+// makes it invalid, so none tests it again.
 fn drive(mut state: State, duty: u16) -> State
+    requires { valid_of state ≡ true }
     ensures { result ≡ after_each state (calls_from duty 0 (targets state)) }
 {
     let word = words::duty_word(duty);
@@ -33,7 +33,7 @@ fn drive(mut state: State, duty: u16) -> State
     for (i, target) in targets.iter().enumerate() {
         let differs = *target != duty;
         if differs {
-            write_target(&mut state, i, word);
+            state = write_target(state, i, word);
         }
     }
     state

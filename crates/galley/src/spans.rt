@@ -32,3 +32,29 @@ pub fn rows<'a>(
         .get(first as usize..end as usize)
         .ok_or(GalleyRefusal::RowsOutside)
 }
+
+// Why a span cannot be handed out, or 0.
+pub fn span_refusal(galley: Galley, first: u32, end: u32, normal: &[u8], quiet: &[u8]) -> u8
+    ensures { result ≡ span_refusal galley first end normal.now quiet.now }
+{
+    match rows(galley, first, end, normal, quiet) {
+        Ok(_) => 0,
+        Err(refusal) => refusal.number(),
+    }
+}
+
+// The same rows, for a caller that asks for no refusal: an empty part where the span is refused.
+pub fn span_rows<'a>(
+    galley: Galley,
+    first: u32,
+    end: u32,
+    normal: &'a [u8],
+    quiet: &'a [u8],
+) -> &'a [u8]
+    ensures { result.now ≡ span_rows galley first end normal.now quiet.now }
+{
+    match rows(galley, first, end, normal, quiet) {
+        Ok(rows) => rows,
+        Err(_) => &normal[..0],
+    }
+}

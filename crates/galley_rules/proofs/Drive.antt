@@ -101,6 +101,10 @@ module _ (duty : ℕ) (ts : List ℕ) where
       ap (λ s. after_each s (left_from (i + 1))) (target-call-is s i duty)
       ∙ sym (ap (after_each s) (rw (ne_eqb (get_or ts i 0) duty other) at (left_here i h)) ∙ each_first s (target_call i duty) (left_from (i + 1)))
 
+  -- and leaves a valid state valid
+  pub left-valid : (s : State) (i : ℕ) → valid_of s ≡ true → valid_of (write_word_of s (0x40 + 2 * i) (duty_word duty)).state ≡ true
+  left-valid s i v = rw (target-call-is s i duty) ((calls-keep s (target_call i duty)).valid v)
+
   pub left-right : (s : State) (i : ℕ) → i < length ts → get_or ts i 0 ≡ duty → after_each s (left_from (i + 1)) ≡ after_each s (left_from i)
   left-right s i h same = sym (ap (after_each s) (rw (eq-eqb (get_or ts i 0) duty same) at (left_here i h)))
 

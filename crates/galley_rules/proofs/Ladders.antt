@@ -8,7 +8,7 @@ use native.Mathlib.Omega.{arith}
 use lib.Dec.{eqb, ltb}
 use lib.IntN.{ℤ}
 use lib.ListN.{length, take, drop}
-use borrow.Author.Tests.{eq-eqb, eqb-true, lt-ltb, le-ltb}
+use borrow.Author.Tests.{eq-eqb, eqb-true, ltb-false, lt-ltb, le-ltb}
 use Rattle.std.specs.Prelude.{if◌then◌else◌}
 use Rattle.rules.specs.Calls.{accepted, state_not_valid}
 use Rattle.rules.specs.Valid.{valid_of}
@@ -55,7 +55,29 @@ module _ (g : Galley) (s : State) (t : ℤ) (normal quiet : List ℕ) where
 
 -- ---- a span of rows
 
+-- no refusal: both tables have 48 bytes, and the span lies in them
+span-passed : (first second : Bool) (a b : ℕ) →
+    (if not first then state_not_valid
+    else if not second then no_table
+    else if ltb b a then rows_outside
+    else if ltb 48 b then rows_outside
+    else accepted) ≡ accepted →
+    (second ≡ true) × (a ≤ b) × (b ≤ 48)
+span-passed true true a b e =
+    by-test (ltb b a) (λ bad. absurd (omega (arith, rw bad at e)))
+    (λ low. by-test (ltb 48 b) (λ bad. absurd (omega (arith, rw (low, bad) at e)))
+    (λ high. (refl, ltb-false b a low, ltb-false 48 b high)))
+span-passed true false a b e = absurd (omega (arith, e))
+span-passed false second a b e = absurd (omega (arith, e))
+
 module _ (g : Galley) (a b : ℕ) (normal quiet : List ℕ) where
+  pub span-facts : span_refusal g a b normal quiet ≡ accepted → (length normal ≡ 48) × (length quiet ≡ 48) × (a ≤ b) × (b ≤ 48)
+  unfolding span_refusal
+  span-facts e =
+      let facts = span-passed (valid_galley g) (are_tables normal quiet) a b e in
+      let long = tables-long normal quiet facts.0 in
+      (long.0, long.1, facts.1, facts.2)
+
   -- every test has passed
   pub span-inside : valid_galley g ≡ true → are_tables normal quiet ≡ true → a ≤ b → b ≤ 48 →
       (span_refusal g a b normal quiet ≡ accepted) × (take (b - a) (drop a (in_force g.quiet normal quiet)) ≡ span_rows g a b normal quiet)

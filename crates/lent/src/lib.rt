@@ -2,7 +2,7 @@
 #![tactic(auto)]
 
 ghost use Rattle.std.specs.Prelude.{◌≡◌, take, drop};
-ghost use Rattle.lent.specs.Put.{Puts};
+ghost use Rattle.lent.specs.Put.{Put, Puts};
 ghost use Rattle.lent.specs.Values.{number, byte_of, word_of};
 
 // A lent buffer, and the index that the next byte goes to: past the buffer's end where a byte was left out.
@@ -12,19 +12,29 @@ pub struct Page<'a> {
     pub at: usize,
 }
 
+// Puts bytes from an index on, as many as there is room for, and gives the index after them. One by one: a copy of what fits would need to
+// know before how much that is. Apart from `Page::put`: with the page's own index the compiler stores it for each byte, and copies no more
+// than one at once.
+fn store(bytes: &mut [u8], from: usize, text: &[u8]) -> usize
+    ensures { Put text.now from bytes.old bytes.new result }
+{
+    let mut at = from;
+    for byte in text {
+        if bytes.len() <= at {
+            return at.max(bytes.len() + 1);
+        }
+        bytes[at] = *byte;
+        at += 1;
+    }
+    at
+}
+
 impl<'a> Page<'a> {
-    // Puts bytes, as many as there is room for. One by one: a copy of what fits would need to know before how much that is.
+    // Puts bytes, as many as there is room for.
     pub fn put(&mut self, text: &[u8])
         ensures { Puts text.now self.old self.new }
     {
-        for byte in text {
-            if self.bytes.len() <= self.at {
-                self.at = self.at.max(self.bytes.len() + 1);
-                return;
-            }
-            self.bytes[self.at] = *byte;
-            self.at += 1;
-        }
+        self.at = store(self.bytes, self.at, text);
     }
 }
 

@@ -1,1 +1,2 @@
 mod Division
+mod Promised

@@ -1,6 +1,6 @@
 -- One tick as a loop makes it: the first n have had their turn.
-use Prim.Native.Nat.{ℕ, ◌+◌, ◌<◌, ◌≤◌}
-use mathlib.Core.Path.{◌≡◌, sym, ◌∙◌, ap, ap₂}
+use Prim.Native.Nat.{ℕ, suc, ◌+◌, ◌<◌, ◌≤◌}
+use mathlib.Core.Path.{◌≡◌, refl, sym, ◌∙◌, ap, ap₂}
 use mathlib.Core.Bool.{true, false}
 use mathlib.Core.List.{List, [], ◌∷◌, ◌++◌}
 use native.Mathlib.Omega.{arith}
@@ -9,6 +9,12 @@ use Rattle.std.proofs.Math.Seq.{take_all}
 use Rattle.std.proofs.lemmas.List.{take_more, take_more_set, drop-set-lt}
 use Rattle.turns.specs.Types.{Waiter, Left, Turns}
 use Rattle.turns.specs.Turns.{turns, may_leave, turn, wait_then, turns_tick, wait_left, ticked}
+
+module _ (clock past delay : ℕ) where
+  turns-long : (wait : ℕ) (ws : List Waiter) → length (turns_tick clock past delay wait ws) ≡ length ws
+  unfolding turns_tick
+  turns-long wait [] = refl
+  turns-long wait (w ∷ ws) = ap (λ n. suc n) (turns-long (wait_then (may_leave clock wait w) delay wait) ws)
 
 module _ (clock past delay : ℕ) (begin : Turns) where
   -- the others are as they were, and come to what they would have come to

@@ -1,5 +1,5 @@
 // The ticks from one clock at which a channel would leave to the next: a power of two up to 128.
-ghost use Rattle.std.specs.Prelude.{◌≡◌, ◌+◌, ◌-◌, ◌%◌, ◌^◌};
+ghost use Rattle.std.specs.Prelude.{◌≡◌, ◌+◌, ◌-◌, ◌%◌, ◌^◌, ◌<◌, ltb, Option, None, Some, if◌then◌else◌};
 ghost use Rattle.turns.specs.Departures.{up_to};
 
 use std::marker::Model;
@@ -23,6 +23,24 @@ impl Model for Period {
 }
 
 impl Period {
+    // 2 to the power of a number, up to 7.
+    pub fn new(shift: u8) -> Option<Period>
+        ensures { result ≡ (if ltb shift 8 then Some shift else None) }
+    {
+        if shift < 8 {
+            Some(Period { shift })
+        } else {
+            None
+        }
+    }
+
+    // The power that it is of 2.
+    pub fn get(self) -> u8
+        ensures { (result ≡ self) × (result < 8) }
+    {
+        self.shift
+    }
+
     // Of the three bits of a rate code, where the duty rises. With code 0 each clock is a multiple.
     pub fn of_rate(code: u8) -> Period
         ensures { result ≡ code % 8 - 1 }

@@ -39,6 +39,14 @@ fn own_word_written(state: State, word: u16, register: WordRegister, i: ChannelI
     State { channels, ..state }
 }
 
+// A word goes into a register of one channel, in one access: what `write_word` does once it has tested the state and found the place. For
+// a caller that has tested the state itself and writes several words.
+pub fn write_own(state: State, word: u16, register: WordRegister, i: ChannelIndex) -> State
+    ensures { result ≡ own_word_written (accessed state) word register i }
+{
+    own_word_written(accessed(state), word, register, i)
+}
+
 // A word goes to what stands at an address, or is refused there.
 #[tactic(auto, unfolding(rules::specs::WriteWord::word_written, rules::specs::WriteWord::word_refusal))]
 fn word_at(state: State, word: u16, place: Place) -> Result<State, Refusal>
@@ -47,9 +55,7 @@ fn word_at(state: State, word: u16, place: Place) -> Result<State, Refusal>
     match place {
         Place::Absent => Err(Refusal::NotCarried),
         Place::ReadOnly(_) => Err(Refusal::ReadOnly),
-        Place::OwnWord(register, i, low) if !low => {
-            Ok(own_word_written(accessed(state), word, register, i))
-        }
+        Place::OwnWord(register, i, low) if !low => Ok(write_own(state, word, register, i)),
         Place::Shared(_) | Place::Own(_, _) | Place::OwnWord(_, _, _) => Err(Refusal::WrongWidth),
     }
 }

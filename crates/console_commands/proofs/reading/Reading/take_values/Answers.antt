@@ -11,8 +11,8 @@ pub returns-in_err-value : goal.returns-in_err-value
 returns-in_err-value c =
     let loop = c.loop-i in
     let parameters = parameters_in c.args.self.parameters in
-    let p = sym c.get.ensures ∙ c.in-Some-Some.is-0 in
-    let first = c.in-Some-Some.ensures' in
+    let p = sym c.get.ensures ∙ c.in-Some.is in
+    let first = c.in-Some-split_word.ensures in
     let refused = sym c.taken.ensures ∙ c.in_err-value.was in
     record {
       value = passed-on c.from_residual.result c.from_residual.ensures.1 ∙ sym (one-refused parameters loop.i p first c.args.self.first refused) ∙ loop.invariant.taken;
@@ -23,8 +23,8 @@ pub loop-i-preserved : goal.loop-i-preserved
 loop-i-preserved c =
     let loop = c.loop-i in
     let parameters = parameters_in c.args.self.parameters in
-    let p = sym c.get.ensures ∙ c.in-Some-Some.is-0 in
-    let first = c.in-Some-Some.ensures' in
+    let p = sym c.get.ensures ∙ c.in-Some.is in
+    let first = c.in-Some-split_word.ensures in
     let taken = sym c.taken.ensures ∙ c.in_ok-value.was in
     record {
       taken = sym (one-taken parameters loop.i p first c.args.self.first taken) ∙ loop.invariant.taken;
@@ -44,17 +44,17 @@ returns-after-loop-i c =
 pub returns-in_default : goal.returns-in_default
 returns-in_default c =
     let loop = c.loop-i in
-    let none = nothing-left (drop loop.i (parameters_in c.args.self.parameters)) _ (c.args.self.first + loop.i) (inr (rw c.in_default.is-1 at c.split_word.ensures)) in
+    let past = from-past (parameters_in c.args.self.parameters) loop.i (sym c.get.ensures ∙ c.in_default.is) in
+    let none = nothing-left _ _ (c.args.self.first + loop.i) (inl past) in
     record {
       value = sym none.0 ∙ loop.invariant.taken;
       values_after = set-get_or loop.values loop.i 0 ∙ rw none.1 at loop.invariant.stored;
     }
 
-pub returns-in_default-2 : goal.returns-in_default-2
-returns-in_default-2 c =
+pub returns-in_default-split_word : goal.returns-in_default-split_word
+returns-in_default-split_word c =
     let loop = c.loop-i in
-    let past = from-past (parameters_in c.args.self.parameters) loop.i (sym c.get.ensures ∙ c.in_default.is-0) in
-    let none = nothing-left _ _ (c.args.self.first + loop.i) (inl past) in
+    let none = nothing-left (drop loop.i (parameters_in c.args.self.parameters)) _ (c.args.self.first + loop.i) (inr (rw c.in_default-split_word.is at c.split_word.ensures)) in
     record {
       value = sym none.0 ∙ loop.invariant.taken;
       values_after = set-get_or loop.values loop.i 0 ∙ rw none.1 at loop.invariant.stored;
