@@ -21,8 +21,9 @@ fn digit(number: u64) -> u8 {
 // A line with a number's four lowest digits in hex. They are made by hand since the standard library's printing of a number divides, which
 // cost/divides would find. A write that fails is let go: the number of its error, which `main` would hand on, would be divided too.
 fn tell(rt: &impl Print, what: &[u8], number: u64) {
-    let [first, second, third, fourth] =
-        [number >> 12, number >> 8, number >> 4, number].map(digit);
+    let [first, second, third, fourth] = [number >> 12, number >> 8, number >> 4, number].map(
+        digit,
+    );
     let _ = rt.write_all(what);
     let _ = rt.write_all(&[first, second, third, fourth, b'\n']);
 }
@@ -130,7 +131,11 @@ fn ran(rt: &impl Print, state: State, letters: [u8; 18]) -> State {
     let read = Call::Read(six_bits(letters[11]));
     let end = encode::encode(Order::from(read), &mut string, first);
     let string = front(&string, end);
-    tell(rt, b"record to ", end_of(Reader::open(string, 0).moved(first).next()));
+    tell(
+        rt,
+        b"record to ",
+        end_of(Reader::open(string, 0).moved(first).next()),
+    );
     let mut answers = [0; 5];
     let run = orders::run(state, string, six_bits(letters[12]), &mut answers);
     tell(
