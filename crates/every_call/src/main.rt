@@ -1,6 +1,6 @@
 // Makes every call of the library once, on numbers that its input spells, and prints what they give: cost/divides looks at its
 // compiled code. As the numbers come from the input the compiler works no answer out beforehand, and as each state is handed on and
-// what else is answered is printed it leaves nothing out but refusals.
+// what else is answered is printed it leaves nothing out but refusals, and what stands above the digits that are told (`unseen`).
 #![tactic(auto)]
 
 use counting::six_bits;
